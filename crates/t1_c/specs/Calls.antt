@@ -11,16 +11,16 @@ use Rattle.t1_calls.specs.Talking.{Turns}
 use Rattle.t1_c.specs.declared.kept.Kept.{Kept}
 
 -- profile: a status that a call may answer
-abbrev pub is_among : List ℕ → ℕ → Bool
-is_among statuses status = list_any (λ s. s == status) statuses
+abbrev pub is_status_among : List ℕ → ℕ → Bool
+is_status_among statuses status = list_any (λ s. s == status) statuses
 
 -- profile: a buffer with a text written over its beginning, as far as there is room
-abbrev pub over : List ℕ → List ℕ → List ℕ
-over text buffer = take (length buffer) text ++ drop (length text) buffer
+abbrev pub written_over : List ℕ → List ℕ → List ℕ
+written_over text buffer = take (length buffer) text ++ drop (length text) buffer
 
 -- profile: a text lies in a buffer, as far as there is room, and its length is told
 pub record Told (text old new : List ℕ) (told : ℕ) : Type 0 where
-  pub bytes : new ≡ over text old
+  pub bytes : new ≡ written_over text old
   pub count : told ≡ length text
 
 -- profile: nothing is told: the buffer and the length are as they were
@@ -38,8 +38,8 @@ abbrev pub Opens : Result SessionState Fault → Option Kept → Type 0
 Opens given held = (state : SessionState) × (given ≡ Ok state) × IsIn held state
 
 -- profile: what was to be made has this fault, and the buffer has its text
-abbrev pub Refuses : {X : Type 0} → Result X Fault → List ℕ → List ℕ → ℕ → Type 0
-Refuses given old new told = (fault : Fault) × (given ≡ Err fault) × Told (fault_text fault) old new told
+abbrev pub RefusesWithText : {X : Type 0} → Result X Fault → List ℕ → List ℕ → ℕ → Type 0
+RefusesWithText given old new told = (fault : Fault) × (given ≡ Err fault) × Told (fault_text fault) old new told
 
 -- profile: the answer that an open session keeps
 abbrev pub answer_in : Option Kept → List ℕ
@@ -59,24 +59,24 @@ is_misuse held line body = is_none held || not (is_call line body)
 -- profile: a call that tells a file: the file at 0, the first fault at 1, and at 2 nothing, for want of memory
 pub record Delivered (status : ℕ) (given : Result (List ℕ) Fault) (old new : List ℕ) (before told : ℕ) : Type 0 where
   pub done : status ≡ 0 → (file : List ℕ) × (given ≡ Ok file) × Told file old new told
-  pub refused : status ≡ 1 → Refuses given old new told
+  pub refused : status ≡ 1 → RefusesWithText given old new told
   pub memory : status ≡ 2 → NothingTold old new before told
-  pub known : is_among (0 ∷ 1 ∷ 2 ∷ []) status ≡ true
+  pub known : is_status_among (0 ∷ 1 ∷ 2 ∷ []) status ≡ true
 
 -- profile: the same, of the source of a font's file
 pub record DeliveredFont (status : ℕ) (given : Result (List ℕ) FontFault) (old new : List ℕ) (before told : ℕ) : Type 0 where
   pub done : status ≡ 0 → (file : List ℕ) × (given ≡ Ok file) × Told file old new told
   pub refused : status ≡ 1 → (fault : FontFault) × (given ≡ Err fault) × Told (font_fault_text fault) old new told
   pub memory : status ≡ 2 → NothingTold old new before told
-  pub known : is_among (0 ∷ 1 ∷ 2 ∷ []) status ≡ true
+  pub known : is_status_among (0 ∷ 1 ∷ 2 ∷ []) status ≡ true
 
 -- profile: a call that judges: nothing is told at 0, the first fault at 1, and nothing at 2, for want of memory
 pub record Judged (status : ℕ) (given : Result (Unit {0}) Fault) (old new : List ℕ) (before told : ℕ) : Type 0 where
   pub passed : status ≡ 0 → given ≡ Ok tt
   pub done : status ≡ 0 → NothingTold old new before told
-  pub refused : status ≡ 1 → Refuses given old new told
+  pub refused : status ≡ 1 → RefusesWithText given old new told
   pub memory : status ≡ 2 → NothingTold old new before told
-  pub known : is_among (0 ∷ 1 ∷ 2 ∷ []) status ≡ true
+  pub known : is_status_among (0 ∷ 1 ∷ 2 ∷ []) status ≡ true
 
 -- profile: a call that tells the lines of all faults: there are none at 0, some at 1, and at 2 nothing is told, for want of memory
 pub record Listed (status : ℕ) (lines old new : List ℕ) (before told : ℕ) : Type 0 where
@@ -85,4 +85,4 @@ pub record Listed (status : ℕ) (lines old new : List ℕ) (before told : ℕ) 
   pub done : status ≡ 0 → Told lines old new told
   pub refused : status ≡ 1 → Told lines old new told
   pub memory : status ≡ 2 → NothingTold old new before told
-  pub known : is_among (0 ∷ 1 ∷ 2 ∷ []) status ≡ true
+  pub known : is_status_among (0 ∷ 1 ∷ 2 ∷ []) status ≡ true

@@ -19,13 +19,12 @@ ghost use Rattle.t1_code.specs.Pfb.{whole_file};
 ghost use Rattle.t1_commands.specs.Blocks.{block_size};
 ghost use Rattle.t1_commands.specs.Commands.{takes_body};
 ghost use Rattle.t1_disassemble.specs.Disassembly.{disassembled};
-ghost use Rattle.t1_session.specs.Files.{assembled, assembled_pfa, metrics_file};
+ghost use Rattle.t1_session.specs.Files.{assembled, assembled_pfa, metrics_file, verdict};
 ghost use Rattle.t1_session.specs.Machine.{scratch};
-ghost use Rattle.t1_calls.specs.Judging.{verdict};
 ghost use Rattle.t1_fault_texts.specs.Rows.{fault_rows};
-ghost use Rattle.t1_c.specs.Calls.{answer_in, is_among, is_misuse};
+ghost use Rattle.t1_c.specs.Calls.{answer_in, is_status_among, is_misuse};
 ghost use Rattle.t1_c.specs.Calls.{Delivered, DeliveredFont, IsTurned, Judged, Listed};
-ghost use Rattle.t1_c.specs.Calls.{NothingTold, Opens, Refuses, Told};
+ghost use Rattle.t1_c.specs.Calls.{NothingTold, Opens, RefusesWithText, Told};
 
 use crate::delivering::{deliver, deliver_source, segment_length, tell_faults, tell_judgement};
 use crate::handle::Handle;
@@ -35,10 +34,11 @@ use crate::telling::{perform, tell_answer};
 use crate::texts::tell_fault;
 use std::alloc::Global;
 use std::mem;
-use t1_calls::{Talk, afm_of, blocks_of, check, pfa_of, pfb_of};
+use t1_calls::{Talk, afm_of, blocks_of, pfa_of, pfb_of};
 use t1_disassemble::disassemble;
 use t1_fault_texts::fault_rows;
 use t1_frac::Refusal;
+use t1_session::check_source;
 
 /// The version of these calls.
 const VERSION: u32 = 1;
@@ -63,12 +63,12 @@ pub extern "C" fn t1edit_open(
     length: &mut usize,
 ) -> u32
     ensures done { result ≡ 0 → Opens (scratch source.now pairs.now) at.new.value }
-    ensures refused { result ≡ 1 → Refuses (scratch source.now pairs.now) out.old out.new
+    ensures refused { result ≡ 1 → RefusesWithText (scratch source.now pairs.now) out.old out.new
         length.new }
-    ensures closed { is_among (1 ∷ 2 ∷ []) result ≡ true → at.new.value ≡ None }
-    ensures silent { is_among (0 ∷ 2 ∷ []) result ≡ true → NothingTold out.old out.new length.old
-        length.new }
-    ensures known { is_among (0 ∷ 1 ∷ 2 ∷ []) result ≡ true }
+    ensures closed { is_status_among (1 ∷ 2 ∷ []) result ≡ true → at.new.value ≡ None }
+    ensures silent { is_status_among (0 ∷ 2 ∷ []) result ≡ true
+        → NothingTold out.old out.new length.old length.new }
+    ensures known { is_status_among (0 ∷ 1 ∷ 2 ∷ []) result ≡ true }
 {
     t1edit_close(alloc, at);
     match Talk::open(alloc, source, pairs) {
@@ -102,10 +102,10 @@ pub extern "C" fn t1edit_perform(
     ensures untold { result ≡ 3 → IsTurned at.old.value at.new.value line.now body.now }
     ensures misused { (result == 4) ≡ is_misuse at.old.value line.now body.now }
     ensures memory { result ≡ 2 → takes_body (words line.now) ≡ true }
-    ensures same { is_among (2 ∷ 4 ∷ []) result ≡ true → at.new.value ≡ at.old.value }
-    ensures silent { is_among (2 ∷ 3 ∷ 4 ∷ []) result ≡ true → NothingTold out.old out.new
+    ensures same { is_status_among (2 ∷ 4 ∷ []) result ≡ true → at.new.value ≡ at.old.value }
+    ensures silent { is_status_among (2 ∷ 3 ∷ 4 ∷ []) result ≡ true → NothingTold out.old out.new
         length.old length.new }
-    ensures known { is_among (0 ∷ 2 ∷ 3 ∷ 4 ∷ []) result ≡ true }
+    ensures known { is_status_among (0 ∷ 2 ∷ 3 ∷ 4 ∷ []) result ≡ true }
 {
     match mem::replace(at, Handle::none(alloc)).take() {
         None => MISUSED,
@@ -128,9 +128,9 @@ pub extern "C" fn t1edit_answer(
     ensures told { result ≡ 0 → Told (answer_in at.old.value) out.old out.new length.new }
     ensures misused { (result == 4) ≡ is_none at.old.value }
     ensures same { at.new.value ≡ at.old.value }
-    ensures silent { is_among (2 ∷ 4 ∷ []) result ≡ true → NothingTold out.old out.new length.old
-        length.new }
-    ensures known { is_among (0 ∷ 2 ∷ 4 ∷ []) result ≡ true }
+    ensures silent { is_status_among (2 ∷ 4 ∷ []) result ≡ true
+        → NothingTold out.old out.new length.old length.new }
+    ensures known { is_status_among (0 ∷ 2 ∷ 4 ∷ []) result ≡ true }
 {
     match mem::replace(at, Handle::none(alloc)).take() {
         None => MISUSED,
@@ -230,7 +230,7 @@ pub extern "C" fn t1edit_check(
     ensures { Judged result (verdict source.now pairs.now) out.old out.new length.old
         length.new }
 {
-    tell_judgement(alloc, check(alloc, source, pairs), out, length)
+    tell_judgement(alloc, check_source(alloc, source, pairs), out, length)
 }
 
 /// Tells every fault of a source and its pairs, a line each.

@@ -4,7 +4,7 @@ ghost use Rattle.t1_frac.specs.Words.{words};
 ghost use Rattle.t1_commands.specs.Commands.{takes_body};
 ghost use Rattle.t1_calls.specs.Framing.{is_call};
 ghost use Rattle.t1_calls.specs.Talking.{Turns};
-ghost use Rattle.t1_c.specs.Calls.{is_among, NothingTold, Told};
+ghost use Rattle.t1_c.specs.Calls.{is_status_among, NothingTold, Told};
 
 use crate::status::{DONE, MEMORY, MISUSED, UNTOLD};
 use crate::texts::put;
@@ -28,10 +28,10 @@ pub fn perform(talk: &mut Talk, line: &[u8], body: &[u8], out: &mut [u8], length
     ensures untold { result ≡ 3 → Turns talk.old talk.new line.now body.now }
     ensures misused { (result == 4) ≡ not (is_call line.now body.now) }
     ensures memory { result ≡ 2 → takes_body (words line.now) ≡ true }
-    ensures same { is_among (2 ∷ 4 ∷ []) result ≡ true → talk.new ≡ talk.old }
-    ensures silent { is_among (2 ∷ 3 ∷ 4 ∷ []) result ≡ true → NothingTold out.old out.new
+    ensures same { is_status_among (2 ∷ 4 ∷ []) result ≡ true → talk.new ≡ talk.old }
+    ensures silent { is_status_among (2 ∷ 3 ∷ 4 ∷ []) result ≡ true → NothingTold out.old out.new
         length.old length.new }
-    ensures known { is_among (0 ∷ 2 ∷ 3 ∷ 4 ∷ []) result ≡ true }
+    ensures known { is_status_among (0 ∷ 2 ∷ 3 ∷ 4 ∷ []) result ≡ true }
 {
     match talk.perform(line, body) {
         Ok(()) => match tell_answer(talk, out, length) {

@@ -8,16 +8,17 @@ use Rattle.std.proofs.lemmas.List.Folds.{list_any-append}
 use Rattle.std.proofs.lemmas.List.Sums.{sum_by-append}
 use Rattle.t1_run.specs.Run.{Key, key_eq}
 use Rattle.t1_cache.specs.declared.records.Named.{Named}
-use Rattle.t1_cache.specs.Users.{key_of, Pairs, UserSet, HasUserRoom, wanted, has_pair}
+use Rattle.t1_cache.specs.Users.{Pairs, UserSet, HasUserRoom, pairs_of_key, has_pair}
+use Rattle.t1_cache.specs.EditKeys.{key_of}
 
 pub less-room : (a b : ℕ) (r : Option UserSet) → a ≤ b → HasUserRoom b r → HasUserRoom a r
 less-room a b None h had = omega (arith, h, had)
 less-room a b (Some r) h had = omega (arith, h, had)
 
 pub wanted-last : (pairs : Pairs) (p : Named × Vec ℕ Global) (k : Key)
-    → wanted (pairs ++ p ∷ []) k ≡ cond (key_eq k (key_of p.0)) (wanted pairs k + 1) (wanted pairs k)
+    → pairs_of_key (pairs ++ p ∷ []) k ≡ cond (key_eq k (key_of p.0)) (pairs_of_key pairs k + 1) (pairs_of_key pairs k)
 wanted-last pairs p k =
-    sum_by-append (λ x. cond (key_eq k (key_of x.0)) 1 0) pairs (p ∷ []) ∙ by (key_eq k (key_of p.0)) (wanted pairs k)
+    sum_by-append (λ x. cond (key_eq k (key_of x.0)) 1 0) pairs (p ∷ []) ∙ by (key_eq k (key_of p.0)) (pairs_of_key pairs k)
   where
     by : (b : Bool) (n : ℕ) → n + (0 + cond b 1 0) ≡ cond b (n + 1) n
     by true n = omega arith

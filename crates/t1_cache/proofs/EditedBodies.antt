@@ -26,7 +26,7 @@ use Rattle.t1_run.specs.Run.{Key, Subr, Glyph, body_at}
 use Rattle.t1_run.specs.Footprint.{Includes}
 use Rattle.t1_run.proofs.Asked.{eq_self}
 use Rattle.t1_font.specs.Bodies.{bodies, glyph_among, glyph_in, subr_among, subr_in}
-use Rattle.t1_cache.specs.Edited.{subr_key}
+use Rattle.t1_cache.specs.EditKeys.{subr_key}
 use Rattle.t1_cache.specs.Overlay.{BodyLaw}
 use Rattle.t1_cache.proofs.Accepted.{glyph_at, last_glyph, last_subr, new_glyph, new_subr, subr_at, added_glyph-made, added_subr-made, removed_glyph-made, removed_subr-made, replaced_glyph-made, replaced_subr-made}
 use Rattle.t1_cache.proofs.Edits.{key-of}

@@ -19,7 +19,8 @@ use Rattle.t1_source.proofs.ItemPlaceLaws.{insert_there, last_of, position_first
 use Rattle.t1_run.specs.Run.{Key}
 use Rattle.t1_run.specs.Touched.{is_named}
 use Rattle.t1_font.specs.Glyphs.{glyph_names}
-use Rattle.t1_cache.specs.Edited.{IsEditedAt, subr_key}
+use Rattle.t1_cache.specs.Edited.{IsEditedAt}
+use Rattle.t1_cache.specs.EditKeys.{subr_key}
 use Rattle.t1_cache.specs.Laws.{AreDistinct, NamesLaw}
 use Rattle.t1_cache.proofs.Accepted.{glyph_at, last_glyph, new_glyph, added_glyph-made, removed_glyph-made, replaced_glyph-made}
 use Rattle.t1_cache.proofs.Distinct.{names_distinct}

@@ -14,10 +14,11 @@ use Rattle.t1_run.specs.Footprint.{uses}
 use Rattle.t1_run.specs.Run.{FontBodies, Key, Glyph, Drawing, own}
 use Rattle.t1_run.specs.Touched.{is_key_of, is_touched, meets_part, meets_parts, meets_run, touched_within}
 use Rattle.t1_font.specs.Bodies.{bodies}
-use Rattle.t1_cache.specs.Edited.{is_stale, subr_key}
+use Rattle.t1_cache.specs.Edited.{is_stale}
+use Rattle.t1_cache.specs.EditKeys.{subr_key}
 use Rattle.t1_cache.specs.Kept.{KeepsAll}
-use Rattle.t1_cache.specs.Renewal.{AreInPlace, IsOneOf, KeptAfterLaw, KeptTurnLaw}
-use Rattle.t1_cache.specs.Renewed.{Kept}
+use Rattle.t1_cache.specs.Renewal.{AreInPlace, KeptAfterLaw, KeptTurnLaw}
+use Rattle.t1_cache.specs.Recorded.{IsOneOf, Kept}
 use Rattle.t1_cache.proofs.EditedNames.{names_edited}
 use Rattle.t1_cache.proofs.Judging.{unnamed}
 use Rattle.t1_font.proofs.Lookups.{bytes_tell}

@@ -21,7 +21,8 @@ use Rattle.t1_run.specs.Footprint.{Includes, SameAt}
 use Rattle.t1_font.specs.Bodies.{bodies}
 use Rattle.t1_font.specs.Glyphs.{glyph_names}
 use Rattle.t1_run.specs.Touched.{is_named}
-use Rattle.t1_cache.specs.Edited.{subr_key, IsEditedAt}
+use Rattle.t1_cache.specs.Edited.{IsEditedAt}
+use Rattle.t1_cache.specs.EditKeys.{subr_key}
 use Rattle.t1_cache.specs.Laws.{IsKeyAmong, EditLaw}
 use Rattle.t1_cache.proofs.Accepted.{glyph_at, last_glyph, last_subr, new_glyph, new_subr, subr_at, added_glyph-made, added_subr-made, encoded-made, lead-made, removed_glyph-made, removed_subr-made, replaced_glyph-made, replaced_subr-made, unencoded-made, IsIn, IsLeadMade, IsNumbered, IsOut, IsPut, LeadIn, LeadPut}
 use Rattle.t1_cache.proofs.Middles.{edited_middle}

@@ -15,7 +15,8 @@ use Rattle.t1_run.specs.Composite.{outline}
 use Rattle.t1_run.specs.Footprint.{uses, is_part}
 use Rattle.t1_run.specs.Run.{FontBodies, Key, Subr, Glyph, Drawing, own}
 use Rattle.t1_font.specs.Bodies.{bodies}
-use Rattle.t1_font.specs.Glyphs.{Glyph as Reported, run_there, placed_parts_of, glyph_of, glyphs_by, glyph_names}
+use Rattle.t1_font.specs.Glyphs.{Glyph as Reported, placed_parts_of, glyph_of, glyphs_by, glyph_names}
+use Rattle.t1_extent.specs.FoundRuns.{run_there}
 use Rattle.t1_run.specs.Touched.{is_named, meets_run, meets_parts, touched_within, is_touched}
 use Rattle.t1_run.proofs.Untouched.{untouched_kept}
 use Rattle.t1_cache.specs.Edited.{is_stale}

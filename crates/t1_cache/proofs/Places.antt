@@ -8,7 +8,8 @@ use Rattle.std.proofs.lemmas.Bool.{cases_Bool}
 use Rattle.t1_extent.specs.Kept.{TracedRun}
 use Rattle.t1_afm.specs.declared.bbox.BBox.{BBox}
 use Rattle.t1_cache.specs.declared.records.GlyphRecord.{GlyphRecord}
-use Rattle.t1_cache.specs.Renewed.{kept_of, record_of, with_run}
+use Rattle.t1_cache.specs.Renewed.{record_of, with_run}
+use Rattle.t1_cache.specs.Recorded.{kept_of}
 
 over-cond : (b : Bool) (xs ys : List (Vec ℕ Global × GlyphRecord)) → map kept_of (cond b xs ys) ≡ cond b (map kept_of xs) (map kept_of ys)
 over-cond true xs ys = refl

@@ -12,8 +12,8 @@ use Rattle.t1_font.specs.Bodies.{bodies}
 use Rattle.t1_font.specs.Glyphs.{glyph_names}
 use Rattle.t1_cache.specs.declared.records.GlyphRecord.{GlyphRecord}
 use Rattle.t1_cache.specs.Kept.{RecordedLaw}
-use Rattle.t1_cache.specs.Renewal.{IsFromScratch}
-use Rattle.t1_cache.specs.Renewed.{kept_of, record_of}
+use Rattle.t1_cache.specs.Recorded.{IsFromScratch, kept_of}
+use Rattle.t1_cache.specs.Renewed.{record_of}
 use Rattle.t1_cache.proofs.NamesThere.{names_there}
 use Rattle.t1_font.proofs.Lookups.{bytes_tell}
 use Rattle.t1_font.proofs.Measuring.{own-none}

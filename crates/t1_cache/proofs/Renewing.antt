@@ -20,8 +20,8 @@ use Rattle.t1_font.specs.SourceChecks.{source_glyphs}
 use Rattle.t1_run.proofs.Untouched.{untouched_kept}
 use Rattle.t1_cache.specs.Edited.{is_stale}
 use Rattle.t1_cache.specs.Kept.{without_serial, shown_from, KeptNamesLaw}
-use Rattle.t1_cache.specs.Renewed.{Kept}
-use Rattle.t1_cache.specs.Renewal.{IsFromScratch, IsOneOf, IsRenewed, RenewalLaw}
+use Rattle.t1_cache.specs.Recorded.{Kept, IsFromScratch, IsOneOf}
+use Rattle.t1_cache.specs.Renewal.{IsRenewed, RenewalLaw}
 use Rattle.t1_cache.proofs.Lists.{all-weaken}
 use Rattle.t1_extent.proofs.Curves.{some_is}
 

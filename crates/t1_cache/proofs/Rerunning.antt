@@ -14,8 +14,9 @@ use Rattle.t1_cache.specs.declared.records.Rerun.{Rerun}
 use Rattle.t1_font.specs.Bodies.{bodies}
 use Rattle.t1_cache.specs.Edited.{is_stale}
 use Rattle.t1_cache.specs.Laws.{AreDistinct}
-use Rattle.t1_cache.specs.Renewal.{IsFromScratch, IsOneOf, IsRenewed, RerunsLaw, kept_by}
-use Rattle.t1_cache.specs.Renewed.{Kept, kept_of, names_of, rerun_by_name, rerun_of, reruns_by_name, with_run, with_rerun, with_reruns}
+use Rattle.t1_cache.specs.Renewal.{IsRenewed, RerunsLaw, kept_by}
+use Rattle.t1_cache.specs.Recorded.{IsFromScratch, IsOneOf, Kept, kept_of}
+use Rattle.t1_cache.specs.Renewed.{names_of, rerun_by_name, rerun_of, reruns_by_name, with_run, with_rerun, with_reruns}
 use Rattle.t1_cache.specs.Users.{has_name}
 use Rattle.t1_cache.proofs.Names.{bytes_equiv}
 use Rattle.t1_font.proofs.Lookups.{bytes_tell}

@@ -16,7 +16,8 @@ use Rattle.t1_cache.specs.declared.records.Named.{Named}
 use Rattle.t1_cache.specs.declared.records.Records.{Records}
 use Rattle.t1_cache.specs.Bodies.{record_bodies}
 use Rattle.t1_cache.specs.Room.{IsRoomier, MayJoin, RoomLaw}
-use Rattle.t1_cache.specs.Users.{has_pair, key_of, HasUserRoom, Pairs, UserSet, users_at, wanted}
+use Rattle.t1_cache.specs.Users.{has_pair, HasUserRoom, Pairs, UserSet, users_at, pairs_of_key}
+use Rattle.t1_cache.specs.EditKeys.{key_of}
 use Rattle.t1_font.proofs.Keys.{key-same}
 use Rattle.t1_font.proofs.Lookups.{Distinguishes, bytes_tell, inserted-at}
 use Rattle.t1_cache.proofs.Putting.{at, users-put}
@@ -83,17 +84,17 @@ users-there records (Subr n) b e = body-there _ (λ r. r.body) _ b e
 users-there records (Glyph g) b e = body-there _ (λ r. r.body) _ b e
 
 -- keys that are wanted have a pair
-some-wanted : (joins : Pairs) (k : Key) → (wanted joins k ≡ 0) ⊎ ((u : List ℕ) × (has_pair joins k u ≡ true))
+some-wanted : (joins : Pairs) (k : Key) → (pairs_of_key joins k ≡ 0) ⊎ ((u : List ℕ) × (has_pair joins k u ≡ true))
 some-wanted [] k = inl refl
 some-wanted (p ∷ joins) k = by (key_eq k (key_of p.0)) refl (some-wanted joins k) where
-  by : (b : Bool) → key_eq k (key_of p.0) ≡ b → (wanted joins k ≡ 0) ⊎ ((u : List ℕ) × (has_pair joins k u ≡ true))
-      → (wanted (p ∷ joins) k ≡ 0) ⊎ ((u : List ℕ) × (has_pair (p ∷ joins) k u ≡ true))
+  by : (b : Bool) → key_eq k (key_of p.0) ≡ b → (pairs_of_key joins k ≡ 0) ⊎ ((u : List ℕ) × (has_pair joins k u ≡ true))
+      → (pairs_of_key (p ∷ joins) k ≡ 0) ⊎ ((u : List ℕ) × (has_pair (p ∷ joins) k u ≡ true))
   by true on rest = inr (
     p.1.items,
     ap (λ b. (b && bytes_eq p.1.items p.1.items) || has_pair joins k p.1.items) on
         ∙ ap (λ b. b || has_pair joins k p.1.items) (bytes_tell.itself p.1.items),
   )
-  by false off (inl none) = inl (sum_by-append (λ x. cond (key_eq k (key_of x.0)) 1 0) (p ∷ []) joins ∙ ap (λ b. (0 + cond b 1 0) + wanted joins k) off ∙ (omega (arith, none)))
+  by false off (inl none) = inl (sum_by-append (λ x. cond (key_eq k (key_of x.0)) 1 0) (p ∷ []) joins ∙ ap (λ b. (0 + cond b 1 0) + pairs_of_key joins k) off ∙ (omega (arith, none)))
   by false off (inr there) = inr (
     there.0,
     ap (λ b. (b && bytes_eq there.0 p.1.items) || has_pair joins k there.0) off ∙ there.1,
@@ -105,7 +106,7 @@ room_for_joins m names joins are records same may k = by (users_at records k) re
   at-same (Subr n) = same (Subr n)
   at-same (Glyph g) = same (Glyph g)
 
-  by : (s : Option UserSet) → users_at records k ≡ s → MayJoin (wanted joins k) s → HasUserRoom (wanted joins k) s
+  by : (s : Option UserSet) → users_at records k ≡ s → MayJoin (pairs_of_key joins k) s → HasUserRoom (pairs_of_key joins k) s
   by (Some s) e fits = fits
   by None e fits =
       elim (some-wanted joins k) [
@@ -120,9 +121,9 @@ room_for_joins m names joins are records same may k = by (users_at records k) re
 
 -- one more that joins
 pub wanted-more : (joins : Pairs) (i : ℕ) (p : Named × Vec ℕ Global) (k : Key) → i < length joins → p ≡ get_or joins i p
-    → wanted (take (i + 1) joins) k ≡ cond (key_eq k (key_of p.0)) (wanted (take i joins) k + 1) (wanted (take i joins) k)
+    → pairs_of_key (take (i + 1) joins) k ≡ cond (key_eq k (key_of p.0)) (pairs_of_key (take i joins) k + 1) (pairs_of_key (take i joins) k)
 wanted-more joins i p k less is = by (key_eq k (key_of p.0)) refl where
-  by : (b : Bool) → key_eq k (key_of p.0) ≡ b → wanted (take (i + 1) joins) k ≡ cond b (wanted (take i joins) k + 1) (wanted (take i joins) k)
+  by : (b : Bool) → key_eq k (key_of p.0) ≡ b → pairs_of_key (take (i + 1) joins) k ≡ cond b (pairs_of_key (take i joins) k + 1) (pairs_of_key (take i joins) k)
   by true on = count_by_more_yes (λ x. key_eq k (key_of x.0)) joins i p less (ap (λ x. key_eq k (key_of x.0)) (sym is) ∙ on)
   by false off = count_by_more_no (λ x. key_eq k (key_of x.0)) joins i p less (ap (λ x. key_eq k (key_of x.0)) (sym is) ∙ off)
 

@@ -8,7 +8,8 @@ use Rattle.t1_cache.specs.declared.records.Named.{Named}
 use Rattle.t1_cache.specs.declared.records.Records.{Records}
 use Rattle.t1_cache.specs.Found.{Reached, Seed, User, Closes}
 use Rattle.t1_cache.specs.Tables.{is_seed, AreTables}
-use Rattle.t1_cache.specs.Users.{among, glyph_users, key_of}
+use Rattle.t1_cache.specs.Users.{among, glyph_users}
+use Rattle.t1_cache.specs.EditKeys.{key_of}
 
 module _ (m : FontBodies) (records : Records) (tables : AreTables m records) where
   seeds-met : (g : List ℕ) (edits : List Named) → list_any (is_seed records g) edits ≡ list_any (is_met m g) (map key_of edits)

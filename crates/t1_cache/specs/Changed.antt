@@ -5,10 +5,10 @@ use Rattle.indexmap.specs.IndexMap.{spare}
 use Rattle.t1_code.specs.declared.command.Command.{Command}
 use Rattle.t1_run.specs.Run.{FontBodies, Key, body_at, key_eq}
 use Rattle.t1_run.specs.Touched.{SameBut}
-use Rattle.t1_font.specs.Bodies.{SameBodies}
+use Rattle.t1_font.specs.KeptBodies.{SameBodies}
 use Rattle.t1_cache.specs.declared.records.Records.{Records}
 use Rattle.t1_cache.specs.Bodies.{record_bodies}
-use Rattle.t1_cache.specs.Renewed.{kept_of}
+use Rattle.t1_cache.specs.Recorded.{kept_of}
 use Rattle.t1_cache.specs.Users.{rest_of, users_at, UserSet}
 
 -- word: the records have this body, or none, at the key, and at each other key what they had

@@ -1,36 +1,17 @@
--- What edits name, and the glyphs that they make stale.
-use Rattle.std.specs.Prelude.{◌≡◌, ℕ, ℤ, pos, negsuc, Bool, not, List, [], ◌∷◌, ◌++◌, filter, Option, None}
+-- The glyphs that edits make stale, and what edits leave of names and bodies.
+use Rattle.std.specs.Prelude.{◌≡◌, ℕ, Bool, not, List, [], ◌∷◌, ◌++◌, filter, Option, None}
 use Rattle.std.specs.Result.{result_ok}
 use Rattle.std.specs.Str.{bytes_eq}
 use Rattle.t1_code.specs.Words.{commands}
 use Rattle.t1_code.specs.declared.command.Command.{Command}
 use Rattle.t1_parts.specs.SourceParts.{SourceParts}
 use Rattle.t1_source.specs.declared.edit.Edit.{Edit}
-use Rattle.t1_source.specs.declared.edit.Edit.TheVariants.{ReplaceGlyph, AddGlyph, RemoveGlyph, ReplaceSubr, AddSubr, RemoveSubr, Encode, Unencode, LenIv, Kern, Unkern}
+use Rattle.t1_source.specs.declared.edit.Edit.TheVariants.{ReplaceGlyph, AddGlyph, RemoveGlyph, ReplaceSubr, AddSubr}
 use Rattle.t1_source.specs.Editing.{body_words}
-use Rattle.t1_run.specs.Run.{Key, Subr, Glyph}
+use Rattle.t1_run.specs.Run.{Key}
 use Rattle.t1_run.specs.Touched.{SameBut, is_named, is_touched}
 use Rattle.t1_font.specs.Bodies.{bodies}
 use Rattle.t1_font.specs.Glyphs.{glyph_names}
-
--- profile: the key of a Subr, which no negative number has
-abbrev pub subr_key : ℤ → List Key
-subr_key (pos n) = Subr n ∷ []
-subr_key (negsuc n) = []
-
--- profile: what an edit replaces, adds or removes; nothing where it edits slots, lenIV or pairs alone
-abbrev pub named : Edit → List Key
-named (ReplaceGlyph g body) = Glyph g ∷ []
-named (AddGlyph g body) = Glyph g ∷ []
-named (RemoveGlyph g) = Glyph g ∷ []
-named (ReplaceSubr n body) = subr_key n
-named (AddSubr n body) = subr_key n
-named (RemoveSubr n) = subr_key n
-named (Encode code g) = []
-named (Unencode code) = []
-named (LenIv n) = []
-named (Kern left right value) = []
-named (Unkern left right) = []
 
 -- word: one source is another, edited at these keys: the other bodies are the same, and the other glyphs stand in
 -- the same order

@@ -10,24 +10,25 @@ use Rattle.t1_font.specs.Bodies.{bodies}
 use Rattle.t1_font.specs.Glyphs.{Glyph as Reported, glyph_names}
 use Rattle.t1_font.specs.SourceChecks.{source_glyphs}
 use Rattle.t1_cache.specs.declared.records.Records.{Records}
-use Rattle.t1_cache.specs.Renewed.{Kept, kept_of, recorded_run}
+use Rattle.t1_cache.specs.Renewed.{recorded_run}
+use Rattle.t1_cache.specs.Recorded.{Kept, kept_of}
 
--- profile: a record, its serial aside
+-- word: a record, its serial aside
 pub record Shown : Type 0 where
   pub name : List ℕ
   pub drawing : Drawing
   pub keeps_trace : Bool
   pub box : Option BBox
 
--- profile: what is kept, its serial aside
+-- word: what is kept, its serial aside
 abbrev pub without_serial : Kept → Shown
 without_serial k = record { name = k.name; drawing = k.run.drawing; keeps_trace = traces k.name k.run; box = k.box }
 
--- profile: the same, of a glyph from scratch, whose trace is kept unless it can't be a part
+-- word: the same, of a glyph from scratch, whose trace is kept unless it can't be a part
 abbrev pub shown_from : Reported → Shown
 shown_from g = record { name = g.name; drawing = g.drawing; keeps_trace = true; box = drawn_box g.outline }
 
--- profile: the source has no fault, and the records are those of its glyphs from scratch, in source order
+-- word: the source has no fault, and the records are those of its glyphs from scratch, in source order
 pub record KeepsAll (s : SourceParts) (records : List Kept) : Type 0 where
   pub glyphs : List Reported
   pub faultless : source_glyphs s ≡ Ok glyphs

@@ -19,7 +19,8 @@ use Rattle.t1_run.specs.Composite.{outline_within, outline}
 use Rattle.t1_code.specs.declared.command.Command.{Command}
 use Rattle.t1_font.specs.Bodies.{bodies}
 use Rattle.t1_font.specs.Glyphs.{Glyph as Reported, glyphs, glyph_names}
-use Rattle.t1_cache.specs.Edited.{IsEditedAt, named, names_after, is_stale, stale}
+use Rattle.t1_cache.specs.Edited.{IsEditedAt, names_after, is_stale, stale}
+use Rattle.t1_cache.specs.EditKeys.{named}
 
 -- word: whether glyphs have no fault, or their first one
 abbrev pub fault_check : {X : Type 0} → Result X Fault → Result (Unit {0}) Fault

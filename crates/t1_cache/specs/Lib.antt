@@ -1,11 +1,13 @@
 pub mod Bodies
 pub mod Changed
+pub mod EditKeys
 pub mod Edited
 pub mod Found
 pub mod Joins
 pub mod Kept
 pub mod Laws
 pub mod Overlay
+pub mod Recorded
 pub mod Renewal
 pub mod Renewed
 pub mod Room

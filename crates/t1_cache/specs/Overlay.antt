@@ -10,8 +10,10 @@ use Rattle.t1_source.specs.declared.edit.Edit.{Edit}
 use Rattle.t1_pairs.specs.declared.pairs.Pair.{Pair}
 use Rattle.t1_source.specs.Editing.{edited}
 use Rattle.t1_source.specs.WellFormed.{IsWellFormed}
-use Rattle.t1_font.specs.Bodies.{SameBodies, bodies}
-use Rattle.t1_cache.specs.Edited.{body_after, named}
+use Rattle.t1_font.specs.Bodies.{bodies}
+use Rattle.t1_font.specs.KeptBodies.{SameBodies}
+use Rattle.t1_cache.specs.Edited.{body_after}
+use Rattle.t1_cache.specs.EditKeys.{named}
 
 -- word: a font with some bodies set and some taken out
 abbrev pub overlaid : (ℕ → Option (Option (List Command))) → (List ℕ → Option (Option (List Command))) → FontBodies → FontBodies

@@ -1,40 +1,26 @@
 -- The records of an edited font.
-use Rattle.std.specs.Prelude.{◌≡◌, ◌⊎◌, ℕ, true, false, not, List, [], ◌∷◌, ◌++◌, filter, map, Option, Some, Ok}
+use Rattle.std.specs.Prelude.{◌≡◌, ℕ, true, false, not, List, [], ◌∷◌, ◌++◌, filter, map, Option, Ok}
 use Rattle.std.specs.List.{AllByRecursion, list_any}
 use Rattle.std.specs.Str.{bytes_eq}
 use Rattle.t1_parts.specs.SourceParts.{SourceParts}
-use Rattle.t1_run.specs.declared.outline.Segment.{Segment}
-use Rattle.t1_run.specs.Run.{FontBodies, Key, own}
-use Rattle.t1_extent.specs.Kept.{TracedRun, traces}
+use Rattle.t1_run.specs.Run.{Key}
+use Rattle.t1_extent.specs.Kept.{TracedRun}
 use Rattle.t1_source.specs.declared.edit.Edit.{Edit}
 use Rattle.t1_source.specs.declared.edit.Edit.TheVariants.{AddGlyph, RemoveGlyph}
 use Rattle.t1_pairs.specs.declared.pairs.Pair.{Pair}
 use Rattle.t1_source.specs.Editing.{edited}
 use Rattle.t1_source.specs.WellFormed.{IsWellFormed}
 use Rattle.t1_afm.specs.declared.bbox.BBox.{BBox}
-use Rattle.t1_run.specs.Composite.{outline}
-use Rattle.t1_afm.specs.Box.{drawn_box}
 use Rattle.t1_font.specs.Bodies.{bodies}
 use Rattle.t1_font.specs.Glyphs.{Glyph as Reported, glyph_names}
 use Rattle.t1_font.specs.SourceChecks.{source_glyphs}
-use Rattle.t1_cache.specs.Edited.{IsEditedAt, is_stale, named}
+use Rattle.t1_cache.specs.Edited.{IsEditedAt, is_stale}
+use Rattle.t1_cache.specs.EditKeys.{named}
 use Rattle.t1_cache.specs.Kept.{KeepsAll}
 use Rattle.t1_cache.specs.declared.records.Rerun.{Rerun}
-use Rattle.t1_cache.specs.Renewed.{Kept, with_reruns}
+use Rattle.t1_cache.specs.Renewed.{with_reruns}
+use Rattle.t1_cache.specs.Recorded.{Kept, IsFromScratch, IsOneOf}
 use Rattle.t1_cache.specs.Users.{has_name}
-
--- word: a record has the own run of its glyph, with its trace unless it can't be a part, and the box of its outline
-pub record IsFromScratch (m : FontBodies) (k : Kept) : Type 0 where
-  pub segments : List Segment
-  pub run : own m k.name ≡ Some (Ok k.run.drawing)
-  pub trace : traces k.name k.run ≡ true
-  pub draws : outline m k.name ≡ Ok segments
-  pub box : k.box ≡ drawn_box segments
-
--- profile: a record is one of these
-abbrev pub IsOneOf : List Kept → Kept → Type 0
-IsOneOf [] k = ⊥
-IsOneOf (x ∷ xs) k = (x ≡ k) ⊎ IsOneOf xs k
 
 -- word: a record of a stale glyph is from scratch, and another is one that was kept
 pub record IsRenewed (keys : List Key) (old new : SourceParts) (kept : List Kept) (k : Kept) : Type 0 where
@@ -65,10 +51,10 @@ RerunsLaw =
     → KeepsAll new (with_reruns reruns before)
 
 -- word: the records after an edit, before any glyph is run again: a new glyph has some run and box, and is the last one
-abbrev pub kept_after : Edit → TracedRun → Option BBox → List Kept → List Kept
-kept_after (AddGlyph g body) run box kept = kept ++ record { name = g; run = run; box = box } ∷ []
-kept_after (RemoveGlyph g) run box kept = filter (λ k. not (bytes_eq g k.name)) kept
-kept_after _ run box kept = kept
+abbrev pub records_after : Edit → TracedRun → Option BBox → List Kept → List Kept
+records_after (AddGlyph g body) run box kept = kept ++ record { name = g; run = run; box = box } ∷ []
+records_after (RemoveGlyph g) run box kept = filter (λ k. not (bytes_eq g k.name)) kept
+records_after _ run box kept = kept
 
 -- word: records stand in the order of the edited source, and each that is fresh is one of those kept
 pub record AreInPlace (keys : List Key) (old new : SourceParts) (kept before : List Kept) : Type 0 where
@@ -79,11 +65,11 @@ pub record AreInPlace (keys : List Key) (old new : SourceParts) (kept before : L
 abbrev pub KeptAfterLaw : Type 0
 KeptAfterLaw =
     (s : SourceParts) (k : List Pair) (edit : Edit) (made : SourceParts) (ps : List Pair) → IsWellFormed s → edited s k edit ≡ Ok (made, ps)
-    → (kept : List Kept) → KeepsAll s kept → (run : TracedRun) (box : Option BBox) → AreInPlace (named edit) s made kept (kept_after edit run box kept)
+    → (kept : List Kept) → KeepsAll s kept → (run : TracedRun) (box : Option BBox) → AreInPlace (named edit) s made kept (records_after edit run box kept)
 
 -- word: after one edit more they are in place at the keys of all edits
 abbrev pub KeptTurnLaw : Type 0
 KeptTurnLaw =
     (keys : List Key) (old s : SourceParts) (k : List Pair) (edit : Edit) (made : SourceParts) (ps : List Pair) → IsWellFormed s → edited s k edit ≡ Ok (made, ps)
     → (kept before : List Kept) → AreInPlace keys old s kept before → (run : TracedRun) (box : Option BBox)
-    → AreInPlace (keys ++ named edit) old made kept (kept_after edit run box before)
+    → AreInPlace (keys ++ named edit) old made kept (records_after edit run box before)

@@ -1,4 +1,4 @@
--- Records of glyphs, their users aside, renewed in their places.
+-- Records of glyphs, their users aside, found by name and renewed in their places.
 use Rattle.std.specs.Prelude.{ℕ, List, [], ◌∷◌, map, Option, Some, None, Result, Ok, if◌then◌else◌}
 use Rattle.std.specs.List.{find}
 use Rattle.std.specs.Map.{lookup}
@@ -14,20 +14,11 @@ use Rattle.t1_cache.specs.declared.records.GlyphRecord.{GlyphRecord}
 use Rattle.t1_cache.specs.declared.records.NewRun.{NewRun}
 use Rattle.t1_cache.specs.declared.records.Records.{Records}
 use Rattle.t1_cache.specs.declared.records.Rerun.{Rerun}
-
--- profile: a glyph's own run, and the box of its outline where it draws
-pub record Kept : Type 0 where
-  pub name : List ℕ
-  pub run : TracedRun
-  pub box : Option BBox
+use Rattle.t1_cache.specs.Recorded.{Kept}
 
 -- word: the record of a glyph, its body and users aside
 abbrev pub kept : List ℕ → TracedRun → Option BBox → Kept
 kept name run box = record { name = name; run = run; box = box }
-
--- profile: the same, of an entry of the table
-abbrev pub kept_of : Vec ℕ Global × GlyphRecord → Kept
-kept_of e = record { name = e.0.items; run = e.1.run; box = e.1.bbox }
 
 -- word: the names of the glyphs that have a record
 abbrev pub names_of : List (Vec ℕ Global × GlyphRecord) → List (List ℕ)

@@ -5,12 +5,12 @@ use Rattle.std.specs.Map.{lookup}
 use Rattle.std.specs.Option.{unwrap_or}
 use Rattle.std.specs.Str.{bytes_eq}
 use Rattle.t1_run.specs.Run.{FontBodies, Key, Subr, Glyph}
-use Rattle.t1_font.specs.Bodies.{SameBodies}
+use Rattle.t1_font.specs.KeptBodies.{SameBodies}
 use Rattle.t1_cache.specs.declared.records.Records.{Records}
 use Rattle.t1_cache.specs.declared.room.Counts.{Counts}
 use Rattle.t1_cache.specs.Bodies.{record_bodies}
 use Rattle.t1_cache.specs.Joins.{AreLeaves}
-use Rattle.t1_cache.specs.Users.{HasUserRoom, Pairs, UserSet, users_at, wanted}
+use Rattle.t1_cache.specs.Users.{HasUserRoom, Pairs, UserSet, users_at, pairs_of_key}
 
 -- word: so many users more may join with no allocation, where there is a record
 abbrev pub MayJoin : ℕ → Option UserSet → Type 0
@@ -28,7 +28,7 @@ IsRoomier _ _ = ⊥
 abbrev pub RoomLaw : Type 0
 RoomLaw =
     (m : FontBodies) (names : List ℕ → Bool) (joins : Pairs) → AreLeaves m names joins → (records : Records) → SameBodies (record_bodies records) m
-    → ((k : Key) → MayJoin (wanted joins k) (users_at records k)) → (k : Key) → HasUserRoom (wanted joins k) (users_at records k)
+    → ((k : Key) → MayJoin (pairs_of_key joins k) (users_at records k)) → (k : Key) → HasUserRoom (pairs_of_key joins k) (users_at records k)
 
 -- ---- how many joined so far
 

@@ -4,7 +4,8 @@ use Rattle.t1_run.specs.Run.{FontBodies, Key, own}
 use Rattle.t1_run.specs.Touched.{is_key_of, is_user}
 use Rattle.t1_cache.specs.declared.records.Named.{Named}
 use Rattle.t1_cache.specs.declared.records.Records.{Records}
-use Rattle.t1_cache.specs.Users.{key_of, lists}
+use Rattle.t1_cache.specs.Users.{lists}
+use Rattle.t1_cache.specs.EditKeys.{key_of}
 
 -- word: the users of each Subr and glyph, as the records list them, are those of the font
 abbrev pub AreTables : FontBodies → Records → Type 0

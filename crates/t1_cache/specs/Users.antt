@@ -15,7 +15,7 @@ use Rattle.t1_cache.specs.declared.records.GlyphRecord.{GlyphRecord}
 use Rattle.t1_cache.specs.declared.records.SubrRecord.{SubrRecord}
 use Rattle.t1_cache.specs.declared.records.Records.{Records}
 use Rattle.t1_cache.specs.declared.records.Named.{Named}
-use Rattle.t1_cache.specs.declared.records.Named.TheVariants as named
+use Rattle.t1_cache.specs.EditKeys.{key_of}
 
 -- word: a name is among these
 abbrev pub has_name : {K : Type 0} → (K → List ℕ) → List K → List ℕ → Bool
@@ -90,11 +90,6 @@ rest_of r = record { subrs = map subr_rest r.subrs.entries; glyphs = map glyph_r
 
 -- ---- users that leave and join
 
--- profile: the key of the Subr or the glyph that is named
-abbrev pub key_of : Named → Key
-key_of (named.Subr n) = Subr n
-key_of (named.Glyph g) = Glyph g
-
 -- word: the glyph of a key is among these names
 abbrev pub is_key_among : List (Vec ℕ Global) → Key → Bool
 is_key_among names (Subr n) = false
@@ -105,8 +100,8 @@ abbrev pub Pairs : Type 0
 Pairs = List (Named × Vec ℕ Global)
 
 -- word: how many of these pairs are of this key
-abbrev pub wanted : Pairs → Key → ℕ
-wanted pairs k = count_by (λ p. key_eq k (key_of p.0)) pairs
+abbrev pub pairs_of_key : Pairs → Key → ℕ
+pairs_of_key pairs k = count_by (λ p. key_eq k (key_of p.0)) pairs
 
 -- word: whether one of these pairs is of this key and this glyph
 abbrev pub has_pair : Pairs → Key → List ℕ → Bool

@@ -6,7 +6,8 @@ ghost use Rattle.indexmap.specs.IndexMap.{spare};
 ghost use Rattle.t1_run.specs.Run.{Key, Subr, Glyph, body_at};
 ghost use Rattle.t1_cache.specs.Bodies.{record_bodies};
 ghost use Rattle.t1_cache.specs.Changed.{AreSameRecords, PutsBody, SetsBody, SetsUsers, UsesUp};
-ghost use Rattle.t1_cache.specs.Renewed.{kept, kept_of};
+ghost use Rattle.t1_cache.specs.Renewed.{kept};
+ghost use Rattle.t1_cache.specs.Recorded.{kept_of};
 ghost use Rattle.t1_cache.specs.Users.{has_name, is_key_among, lists, users_at, users_of};
 ghost use Rattle.t1_cache.specs.Users.{HasUserRoom};
 

@@ -2,7 +2,8 @@
 ghost use Rattle.std.specs.Prelude.{◌≡◌, ℕ, List, map, option_map};
 ghost use Rattle.t1_cache.specs.Bodies.{glyph_body};
 ghost use Rattle.t1_cache.specs.Laws.{AreDistinct};
-ghost use Rattle.t1_cache.specs.Renewed.{kept_of, names_of, record_of, reruns_by_name, with_run};
+ghost use Rattle.t1_cache.specs.Renewed.{names_of, record_of, reruns_by_name, with_run};
+ghost use Rattle.t1_cache.specs.Recorded.{kept_of};
 ghost use Rattle.t1_cache.specs.Renewed.{with_reruns};
 ghost use Rattle.t1_cache.specs.Users.{glyph_users};
 

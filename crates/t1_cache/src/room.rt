@@ -5,8 +5,9 @@ ghost use Rattle.std.specs.Str.{bytes_eq};
 ghost use Rattle.indexmap.specs.IndexSet.{spare};
 ghost use Rattle.t1_run.specs.Run.{Key, key_eq};
 ghost use Rattle.t1_cache.specs.Room.{count_at, glyph_count, subr_count, IsRoomier, MayJoin};
-ghost use Rattle.t1_cache.specs.Users.{glyph_rest, glyph_users, key_of, lists, rest_of, subr_rest};
-ghost use Rattle.t1_cache.specs.Users.{subr_users, users_at, wanted};
+ghost use Rattle.t1_cache.specs.Users.{glyph_rest, glyph_users, lists, rest_of, subr_rest};
+ghost use Rattle.t1_cache.specs.EditKeys.{key_of};
+ghost use Rattle.t1_cache.specs.Users.{subr_users, users_at, pairs_of_key};
 
 use crate::records::{GlyphRecord, Named, Names, Records, SubrRecord};
 use indexmap::{IndexMap, IndexSet};
@@ -124,7 +125,8 @@ pub fn make_room(
     records: &mut Records,
     joins: &[(Named, Vec<u8>)],
 ) -> Result<(), AllocError>
-    ensures room { OnOk result ((k : Key) → MayJoin (wanted joins.now k) (users_at records.new k)) }
+    ensures room { OnOk result
+        ((k : Key) → MayJoin (pairs_of_key joins.now k) (users_at records.new k)) }
     ensures users { (k : Key) (u : List ℕ) → lists records.new k u ≡ lists records.old k u }
     ensures sets { (k : Key) → IsRoomier (users_at records.old k) (users_at records.new k) }
     ensures rest { rest_of records.new ≡ rest_of records.old }
@@ -161,7 +163,7 @@ pub fn count_joins<'a>(
     alloc: Global,
     joins: &'a [(Named, Vec<u8>)],
 ) -> Result<Counts<'a>, AllocError>
-    ensures { IfOk result (λ counts. (k : Key) → count_at counts k ≡ wanted joins.now k) }
+    ensures { IfOk result (λ counts. (k : Key) → count_at counts k ≡ pairs_of_key joins.now k) }
 {
     let mut counts = Counts {
         subrs: IndexMap::new(alloc),

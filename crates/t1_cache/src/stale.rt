@@ -6,7 +6,8 @@ ghost use Rattle.t1_cache.specs.Found.{Closes};
 ghost use Rattle.t1_cache.specs.Laws.{AreDistinct};
 ghost use Rattle.t1_cache.specs.Tables.{is_seed, AreTables};
 ghost use Rattle.t1_run.specs.Touched.{AreStale};
-ghost use Rattle.t1_cache.specs.Users.{among, glyph_users, has_name, key_of, subr_users};
+ghost use Rattle.t1_cache.specs.Users.{among, glyph_users, has_name, subr_users};
+ghost use Rattle.t1_cache.specs.EditKeys.{key_of};
 
 use crate::records::{GlyphRecord, Named, Names, Records, SubrRecord};
 use indexmap::{IndexMap, IndexSet};

@@ -4,8 +4,10 @@ ghost use Rattle.std.specs.Prelude.{if◌then◌else◌};
 ghost use Rattle.std.specs.Str.{bytes_eq};
 ghost use Rattle.indexmap.specs.IndexSet.{spare};
 ghost use Rattle.t1_run.specs.Run.{Key, key_eq};
-ghost use Rattle.t1_cache.specs.Users.{among, glyph_rest, glyph_users, has_name, has_pair, key_of};
-ghost use Rattle.t1_cache.specs.Users.{lists, rest_of, subr_rest, subr_users, users_at, wanted};
+ghost use Rattle.t1_cache.specs.Users.{among, glyph_rest, glyph_users, has_name, has_pair};
+ghost use Rattle.t1_cache.specs.EditKeys.{key_of};
+ghost use Rattle.t1_cache.specs.Users.{lists, rest_of, subr_rest, subr_users, users_at};
+ghost use Rattle.t1_cache.specs.Users.{pairs_of_key};
 ghost use Rattle.t1_cache.specs.Users.{HasUserRoom};
 
 use crate::records::{GlyphRecord, Named, Names, Records, SubrRecord};
@@ -151,7 +153,7 @@ fn leave_all(records: &mut Records, leaves: Vec<(Named, Vec<u8>)>)
 
 /// Puts glyphs among the users of Subrs and glyphs, in the room that was made.
 fn join_all(records: &mut Records, joins: Vec<(Named, Vec<u8>)>)
-    requires { (k : Key) → HasUserRoom (wanted joins.items k) (users_at records.old k) }
+    requires { (k : Key) → HasUserRoom (pairs_of_key joins.items k) (users_at records.old k) }
     ensures users { (k : Key) (u : List ℕ)
         → lists records.new k u ≡ (lists records.old k u || has_pair joins.items k u) }
     ensures rest { rest_of records.new ≡ rest_of records.old }
@@ -170,7 +172,7 @@ pub fn move_users(
     leaves: Vec<(Named, Vec<u8>)>,
     joins: Vec<(Named, Vec<u8>)>,
 )
-    requires { (k : Key) → HasUserRoom (wanted joins.items k) (users_at records.old k) }
+    requires { (k : Key) → HasUserRoom (pairs_of_key joins.items k) (users_at records.old k) }
     ensures users { (k : Key) (u : List ℕ)
         → lists records.new k u
         ≡ ((lists records.old k u && not (has_pair leaves.items k u)) || has_pair joins.items k u) }

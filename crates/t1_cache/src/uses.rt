@@ -7,7 +7,8 @@ ghost use Rattle.t1_run.specs.Run.{Key, key_eq};
 ghost use Rattle.t1_run.specs.Touched.{is_user};
 ghost use Rattle.t1_font.specs.Runs.{drawing_in};
 ghost use Rattle.t1_cache.specs.Renewed.{recorded_run};
-ghost use Rattle.t1_cache.specs.Users.{has_name, has_pair, key_of};
+ghost use Rattle.t1_cache.specs.Users.{has_name, has_pair};
+ghost use Rattle.t1_cache.specs.EditKeys.{key_of};
 
 use crate::records::{Named, Records};
 use std::alloc::{AllocError, Global};

@@ -15,9 +15,8 @@ use Rattle.t1_faults.specs.declared.found.FoundFault.{FoundFault}
 use Rattle.t1_faults.proofs.CheckLaws.{found_none, none_found}
 use Rattle.t1_fault_texts.specs.Finding.{first_fault, pairs_faults}
 use Rattle.t1_fault_texts.specs.Rows.{fault_rows, rows}
-use Rattle.t1_session.specs.Files.{metrics_file}
+use Rattle.t1_session.specs.Files.{metrics_file, verdict}
 use Rattle.t1_session.proofs.FaultLaws.{metrics_tell_first}
-use Rattle.t1_calls.specs.Judging.{verdict}
 
 -- a text with a byte isn't none
 some_byte : {A : Type 0} (c : ℕ) (rest : List ℕ) → c ∷ rest ≡ [] → A

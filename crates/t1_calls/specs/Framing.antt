@@ -3,13 +3,9 @@ use Rattle.std.specs.Prelude.{ℕ, Bool, not, ◌==◌, ◌&&◌, if◌then◌el
 use Rattle.std.specs.List.{list_all}
 use Rattle.t1_frac.specs.Ascii.{line_feed}
 use Rattle.t1_frac.specs.Words.{words}
-use Rattle.t1_text.specs.Lines.{is_line, is_line_end, joined, lines}
+use Rattle.t1_text.specs.Lines.{is_line, joined, lines}
 use Rattle.t1_commands.specs.declared.command.Command.{Command}
 use Rattle.t1_commands.specs.Commands.{alone, body_command, ends_body, takes_body}
-
--- word, lines: a byte that ends no line
-abbrev pub is_line_byte : ℕ → Bool
-is_line_byte c = not (is_line_end c)
 
 -- profile, session commands: no line of the text is `.`, apart from blanks, which would end a body
 abbrev pub is_body : List ℕ → Bool

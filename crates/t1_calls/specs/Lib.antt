@@ -1,4 +1,6 @@
 pub mod Framing
-pub mod Judging
+pub mod LineBytes
+pub mod Performing
+pub mod Refusing
 pub mod Shown
 pub mod Talking

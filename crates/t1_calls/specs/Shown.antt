@@ -9,11 +9,11 @@ use Rattle.t1_session.specs.FromScratch.{blocks_from_scratch, metrics_from_scrat
 use Rattle.t1_session.specs.State.{SessionState}
 
 -- word: the text that a print shows, in blocks of this size where it is in blocks
-abbrev pub file_of : SessionState → ℕ → Print → Result (List ℕ) Fault
-file_of s size prints.Source = Ok (text s.source)
-file_of s size prints.Kern = Ok (kern s.pairs)
-file_of s size prints.Pfb = pfb_from_scratch s
-file_of s size (prints.Blocks number) = blocks_from_scratch size s
-file_of s size prints.Pfa = pfa_from_scratch s
-file_of s size prints.Afm = metrics_from_scratch s
-file_of s size prints.Uses = uses_from_scratch s
+abbrev pub shown_file : SessionState → ℕ → Print → Result (List ℕ) Fault
+shown_file s size prints.Source = Ok (text s.source)
+shown_file s size prints.Kern = Ok (kern s.pairs)
+shown_file s size prints.Pfb = pfb_from_scratch s
+shown_file s size (prints.Blocks number) = blocks_from_scratch size s
+shown_file s size prints.Pfa = pfa_from_scratch s
+shown_file s size prints.Afm = metrics_from_scratch s
+shown_file s size prints.Uses = uses_from_scratch s

@@ -2,11 +2,10 @@
 use Rattle.std.specs.Prelude.{◌≡◌, ℕ, Bool, true, false, List, [], ◌++◌, Option, Some, None, Result, Ok, Err}
 use Rattle.t1_frac.specs.Words.{words}
 use Rattle.t1_commands.specs.declared.answer.Answer.{Answer}
-use Rattle.t1_commands.specs.declared.command.Command.{Command}
 use Rattle.t1_commands.specs.AnswerTexts.{answer_text}
-use Rattle.t1_commands.specs.Answers.{answer_to, session_answers}
+use Rattle.t1_commands.specs.Answers.{session_answers}
 use Rattle.t1_commands.specs.Commands.{takes_body}
-use Rattle.t1_session.specs.Machine.{after_want, machine, may_want_memory, perform}
+use Rattle.t1_session.specs.Machine.{machine}
 use Rattle.t1_session.specs.State.{SessionState}
 use Rattle.t1_calls.specs.Framing.{framed, is_call}
 use Rattle.t1_calls.specs.declared.talk.Unperformed.{Unperformed}
@@ -18,20 +17,9 @@ pub record Spoken : Type 0 where
   pub answer : List ℕ
 
 -- profile: the text of the answer that is kept: none before the first command, nor for a line without words
-abbrev pub kept_text : Option Answer → List ℕ
-kept_text None = []
-kept_text (Some answer) = answer_text answer
-
--- word: a command was performed and answered; or it met want of memory, and left what that leaves
-abbrev pub IsAnswered : {E : Type 0} → SessionState → SessionState → Command → Result Answer E → Type 0
-IsAnswered old new command (Ok answer) = (answer ≡ (perform old command).answer) × (new ≡ (perform old command).next)
-IsAnswered old new command (Err e) = (may_want_memory old command ≡ true) × (new ≡ after_want old command)
-
--- word: the answer to one command, marked or not as one that met want of memory
-pub record Step (old new : SessionState) (command : Command) (answer : Answer) : Type 0 where
-  pub mark : Bool
-  pub is : answer ≡ (answer_to machine old command mark).answer
-  pub next : new ≡ (answer_to machine old command mark).next
+abbrev pub kept_answer_text : Option Answer → List ℕ
+kept_answer_text None = []
+kept_answer_text (Some answer) = answer_text answer
 
 -- profile, answers: this input brings a session from one state to another with this text, whatever input comes after, and
 -- whether or not that has ended

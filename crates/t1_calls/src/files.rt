@@ -3,10 +3,9 @@ ghost use Rattle.std.specs.Prelude.{◌≡◌, ◌≤◌, ◌-◌, ◌^◌};
 ghost use Rattle.t1_code.specs.Pfb.{whole_file};
 ghost use Rattle.t1_frac.specs.Outcome.{Gives};
 ghost use Rattle.t1_session.specs.Files.{assembled, assembled_pfa, metrics_file};
-ghost use Rattle.t1_calls.specs.Judging.{judged_by, refused_by, verdict};
+ghost use Rattle.t1_calls.specs.Refusing.{refused_by};
 
 use std::alloc::Global;
-use std::io;
 use t1_code::Counted;
 use t1_frac::Refusal;
 use t1_session::{ServeError, assemble_blocks, assemble_pfa, assemble_source, measure_source};
@@ -68,23 +67,4 @@ pub fn afm_of(alloc: Global, source: &[u8], pairs: &[u8]) -> Result<Vec<u8>, Ref
         Ok(()) => Ok(out.into_inner()),
         Err(error) => Err(refusal(error)),
     }
-}
-
-/// What judging answers where measuring answers this.
-fn judged_by(answer: Result<(), ServeError>) -> Result<(), Refusal>
-    ensures { result ≡ judged_by answer }
-{
-    match answer {
-        Ok(()) | Err(ServeError::Write) => Ok(()),
-        Err(ServeError::Load(fault)) => Err(Refusal::Fault(fault)),
-        Err(ServeError::Read | ServeError::Memory) => Err(Refusal::Memory),
-    }
-}
-
-/// Judges a source and a kerning file as measuring them does, and makes no file: `Ok` where they
-/// have an AFM file, else the fault that measuring reports.
-pub fn check(alloc: Global, source: &[u8], pairs: &[u8]) -> Result<(), Refusal>
-    ensures { Gives (λ _. tt) result (verdict source.now pairs.now) }
-{
-    judged_by(measure_source(alloc, source, pairs, &mut Counted::new(io::sink())))
 }

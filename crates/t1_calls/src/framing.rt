@@ -1,7 +1,8 @@
 //! The texts of a call: a line, and the body that it takes.
 ghost use Rattle.std.specs.Prelude.{◌≡◌, IfOk};
 ghost use Rattle.t1_text.specs.Lines.{is_line, joined, lines};
-ghost use Rattle.t1_calls.specs.Framing.{is_body, is_call, is_line_byte};
+ghost use Rattle.t1_calls.specs.Framing.{is_body, is_call};
+ghost use Rattle.t1_calls.specs.LineBytes.{is_line_byte};
 
 use std::alloc::{AllocError, Global};
 use t1_commands::{ends_body, takes_body};

@@ -3,8 +3,8 @@
 ghost use Rattle.std.specs.Prelude.{◌≡◌, ◌++◌, ℕ, Bool, List, [], true, Ok};
 ghost use Rattle.t1_commands.specs.Commands.{input_commands};
 ghost use Rattle.t1_fault_texts.specs.Rows.{fault_rows};
+ghost use Rattle.t1_session.specs.Files.{verdict};
 ghost use Rattle.t1_calls.specs.Framing.{call_commands, framed, is_call};
-ghost use Rattle.t1_calls.specs.Judging.{verdict};
 
 /// The texts of a call as input are its command, or none where the line has no words, in front of
 /// those of the input that comes after.

@@ -1,6 +1,6 @@
 //! Commands performed on a session, each with its answer in memory.
-ghost use Rattle.t1_commands.specs.Commands.{Makes};
-ghost use Rattle.t1_calls.specs.Talking.{IsAnswered, Step};
+ghost use Rattle.t1_commands.specs.MadeCommands.{Makes};
+ghost use Rattle.t1_calls.specs.Performing.{IsCallAnswered, IsAnswerTo};
 
 use crate::prints::{print_answer, show_answer};
 use std::alloc::{AllocError, Global};
@@ -11,7 +11,7 @@ use t1_session::Session;
 /// commit.
 #[tactic(auto, using(crate::proofs::PerformingLaws::taken, crate::proofs::PerformingLaws::print_answered, crate::proofs::PerformingLaws::show_answered))]
 fn perform(alloc: Global, session: &mut Session, command: Command) -> Result<Answer, AllocError>
-    ensures { IsAnswered session.old.state session.new.state command result }
+    ensures { IsCallAnswered session.old.state session.new.state command result }
 {
     match command {
         Command::Edit(edit) => answer_of(session.apply(edit)),
@@ -29,7 +29,7 @@ fn perform(alloc: Global, session: &mut Session, command: Command) -> Result<Ans
 #[tactic(auto, using(crate::proofs::PerformingLaws::answered, crate::proofs::PerformingLaws::unanswered, crate::proofs::PerformingLaws::not_made))]
 pub fn answer_to(alloc: Global, session: &mut Session, made: Result<Command, AllocError>) -> Answer
     ensures { (wanted : Command) → Makes made wanted →
-        Step session.old.state session.new.state wanted result }
+        IsAnswerTo session.old.state session.new.state wanted result }
 {
     match made {
         Ok(command) => match perform(alloc, session, command) {

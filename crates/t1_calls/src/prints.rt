@@ -3,8 +3,8 @@ ghost use Rattle.std.specs.Prelude.{◌≡◌, ◌≤◌, ◌-◌, ◌^◌, Ok, 
 ghost use Rattle.t1_code.specs.Parts.{Prints};
 ghost use Rattle.t1_commands.specs.Blocks.{block_size};
 ghost use Rattle.t1_session.specs.Machine.{blocks_answer, file_answer, found_answer};
-ghost use Rattle.t1_session.specs.Machine.{printed, shown};
-ghost use Rattle.t1_calls.specs.Shown.{file_of};
+ghost use Rattle.t1_session.specs.Machine.{printed, shown_answer};
+ghost use Rattle.t1_calls.specs.Shown.{shown_file};
 
 use std::alloc::{AllocError, Global};
 use std::io::Write;
@@ -23,7 +23,7 @@ fn put_file<W: Write>(
 ) -> Result<(), OutError>
     requires some { 1 ≤ size }
     requires short { size ≤ 2 ^ 31 - 1 }
-    ensures { Prints W.contents out.old out.new (file_of session.now.state size print) result }
+    ensures { Prints W.contents out.old out.new (shown_file session.now.state size print) result }
 {
     match print {
         Print::Source => session.print_source(out),
@@ -45,7 +45,7 @@ fn file_of(
 ) -> Result<Vec<u8>, AllocError>
     requires some { 1 ≤ size }
     requires short { size ≤ 2 ^ 31 - 1 }
-    ensures { IfOk result (λ file. file_of session.now.state size print ≡ Ok file.items) }
+    ensures { IfOk result (λ file. shown_file session.now.state size print ≡ Ok file.items) }
 {
     let mut out = Counted::new(Vec::new(alloc));
     match put_file(session, size, print, &mut out) {
@@ -64,7 +64,8 @@ fn file_answer(
 ) -> Result<Answer, AllocError>
     requires some { 1 ≤ size }
     requires short { size ≤ 2 ^ 31 - 1 }
-    ensures { IfOk result (λ answer. answer ≡ file_answer (file_of session.now.state size print)) }
+    ensures { IfOk result
+        (λ answer. answer ≡ file_answer (shown_file session.now.state size print)) }
 {
     let file = file_of(alloc, session, size, print)?;
     Ok(Answer::Data(Bytes::new(file)))
@@ -107,7 +108,7 @@ fn found_answer(found: Option<Vec<u8>>) -> Answer
 
 /// What a query is answered.
 pub fn show_answer(session: &mut Session, show: &Show) -> Result<Answer, AllocError>
-    ensures shown { IfOk result (λ answer. answer ≡ shown session.old.state show.now) }
+    ensures shown { IfOk result (λ answer. answer ≡ shown_answer session.old.state show.now) }
     ensures same { session.new.state ≡ session.old.state }
 {
     match show {

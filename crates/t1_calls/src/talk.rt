@@ -14,11 +14,12 @@ pub struct Talk {
 }
 
 impl Model for Talk {
-    ghost use Rattle.t1_calls.specs.Talking.{kept_text, Spoken};
+    ghost use Rattle.t1_calls.specs.Talking.{kept_answer_text, Spoken};
 
     ghost Value = { Spoken };
 
-    ghost view = { λ talk. record { state = talk.session.state; answer = kept_text talk.answer } };
+    ghost view = { λ talk.
+        record { state = talk.session.state; answer = kept_answer_text talk.answer } };
 }
 
 /// Why a call performed nothing.
@@ -37,7 +38,7 @@ ghost use Rattle.t1_commands.specs.AnswerTexts.{answer_text};
 ghost use Rattle.t1_commands.specs.Commands.{takes_body};
 ghost use Rattle.t1_session.specs.Machine.{scratch};
 ghost use Rattle.t1_calls.specs.Framing.{is_call};
-ghost use Rattle.t1_calls.specs.Talking.{kept_text, Speaks};
+ghost use Rattle.t1_calls.specs.Talking.{kept_answer_text, Speaks};
 
 use crate::framing::{body_text, is_call};
 use crate::performing::answer_to;
@@ -62,7 +63,7 @@ fn text_of(alloc: Global, answer: &Answer) -> Result<Vec<u8>, AllocError>
 
 /// The text of the answer that is kept.
 fn kept_text(alloc: Global, answer: &Option<Answer>) -> Result<Vec<u8>, AllocError>
-    ensures { IfOk result (λ text. text.items ≡ kept_text answer.now) }
+    ensures { IfOk result (λ text. text.items ≡ kept_answer_text answer.now) }
 {
     match answer {
         None => Ok(Vec::new(alloc)),

@@ -11,7 +11,7 @@ use Rattle.t1_run.specs.Step.{Step, Next, Call, Back, End, Compose, Fault}
 use Rattle.t1_run.specs.Words.{step}
 use Rattle.t1_run.specs.Run as runs
 use Rattle.t1_run.specs.Run.{FontBodies, Stop, Runner, entering, composite_of, body_stop, drawing_of, outcome_of}
-use Rattle.t1_chain.specs.Failing.{Ending, OutOfWords, Returned, Completed, Failed, Failure, Follower, Caller, FailureLaw, act, call_within, called, called_at, composed, endings, failure_by, failure_in, fails_at, too_deep, unmeasured, words_from}
+use Rattle.t1_chain.specs.Failing.{Ending, OutOfWords, Returned, Completed, Failed, Failure, Follower, CallFollower, FailureLaw, follow_step, followed_within, followed_call, called_at, followed_composite, endings, failure_by, failure_in, fails_at, followed_too_deep, unmeasured, words_from}
 use Rattle.t1_chain.specs.declared.failure.Call.{Call as SubrCall}
 
 -- both stop in one way and state, or fail by one code
@@ -41,13 +41,13 @@ after-alike fails call next next' keeps rest (Ok (Failed failure)) (runs.Failed 
 after-alike fails call next next' keeps rest (Err found) (runs.Failed code) h = subst (λ c. (fails found).code ≡ c) h (keeps found)
 after-alike fails call next next' keeps rest _ _ h = absurd h
 
-composed-alike : (fails : Code → Failure) (s : State) → Keeps fails → (r : Result Composite Code) → Alike (composed fails s r) (runs.composed r s)
+composed-alike : (fails : Code → Failure) (s : State) → Keeps fails → (r : Result Composite Code) → Alike (followed_composite fails s r) (runs.composed r s)
 composed-alike fails s keeps (Ok composite) = refl
 composed-alike fails s keeps (Err code) = keeps code
 
-act-alike : (m : FontBodies) (caller : Caller) (caller' : runs.Caller) (fails : Code → Failure) (word : ℕ) (next : Follower) (next' : Runner)
+act-alike : (m : FontBodies) (caller : CallFollower) (caller' : runs.Caller) (fails : Code → Failure) (word : ℕ) (next : Follower) (next' : Runner)
     → ((n : ℕ) (s : State) → AlikeCall (caller n s) (caller' n s)) → Keeps fails → ((s : State) → Alike (next s) (next' s))
-    → (t : Step) → Alike (act m caller fails word next t) (runs.act m caller' next' t)
+    → (t : Step) → Alike (follow_step m caller fails word next t) (runs.act m caller' next' t)
 act-alike m caller caller' fails word next next' calls keeps rest (Next s) = rest s
 act-alike m caller caller' fails word next next' calls keeps rest (Call n s) =
     after-alike fails (record { word = word; subr = n }) next next' keeps rest (caller n s) (caller' n s) (calls n s)
@@ -56,7 +56,7 @@ act-alike m caller caller' fails word next next' calls keeps rest (End s) = refl
 act-alike m caller caller' fails word next next' calls keeps rest (Compose a s) = composed-alike fails s keeps (composite_of m.glyphs a)
 act-alike m caller caller' fails word next next' calls keeps rest (Fault code) = keeps code
 
-words-alike : (m : FontBodies) (caller : Caller) (caller' : runs.Caller) → ((n : ℕ) (s : State) → AlikeCall (caller n s) (caller' n s))
+words-alike : (m : FontBodies) (caller : CallFollower) (caller' : runs.Caller) → ((n : ℕ) (s : State) → AlikeCall (caller n s) (caller' n s))
     → (word : ℕ) (cs : List Command) (s : State) → Alike (words_from m caller word cs s) (runs.run_words m caller' cs s)
 words-alike m caller caller' calls word [] s = refl
 words-alike m caller caller' calls word (c ∷ cs) s =
@@ -65,15 +65,15 @@ words-alike m caller caller' calls word (c ∷ cs) s =
 
 called-alike : (run : List Command → State → Result Ending Code) (run' : List Command → Runner)
     → ((body : List Command) (s : State) → AlikeCall (run body s) (run' body s))
-    → (body : Option (List Command)) (n : ℕ) (s : State) → AlikeCall (called run body n s) (runs.called run' body n s)
+    → (body : Option (List Command)) (n : ℕ) (s : State) → AlikeCall (followed_call run body n s) (runs.called run' body n s)
 called-alike run run' h None n s = refl
 called-alike run run' h (Some body) n s = h body (entering n s)
 
-calls-alike : (m : FontBodies) (levels n : ℕ) (s : State) → AlikeCall (call_within m levels n s) (runs.call_within m levels n s)
-calls-alike m zero n s = called-alike too_deep runs.too_deep (λ body. λ t. refl) (m.subrs n) n s
+calls-alike : (m : FontBodies) (levels n : ℕ) (s : State) → AlikeCall (followed_within m levels n s) (runs.call_within m levels n s)
+calls-alike m zero n s = called-alike followed_too_deep runs.too_deep (λ body. λ t. refl) (m.subrs n) n s
 calls-alike m (suc levels) n s =
-    called-alike (λ body. λ t. Ok (words_from m (call_within m levels) 0 body t)) (runs.run_words m (runs.call_within m levels))
-    (words-alike m (call_within m levels) (runs.call_within m levels) (calls-alike m levels) 0) (m.subrs n) n s
+    called-alike (λ body. λ t. Ok (words_from m (followed_within m levels) 0 body t)) (runs.run_words m (runs.call_within m levels))
+    (words-alike m (followed_within m levels) (runs.call_within m levels) (calls-alike m levels) 0) (m.subrs n) n s
 
 measured-alike : (count : ℕ) (composite : Option Composite) (s : State) (metric : Option Metric)
     → option_map (λ (f : Failure). f.code) (unmeasured count metric) ≡ result_err (drawing_of metric composite s)
@@ -90,4 +90,4 @@ told count _ _ h = absurd h
 
 pub failures_told : FailureLaw
 unfolding failure_in body_stop
-failures_told m body = told (length body) (endings m 10 body initial) (body_stop m body) (words-alike m (call_within m 10) (runs.call_within m 10) (calls-alike m 10) 0 body initial)
+failures_told m body = told (length body) (endings m 10 body initial) (body_stop m body) (words-alike m (followed_within m 10) (runs.call_within m 10) (calls-alike m 10) 0 body initial)

@@ -10,7 +10,7 @@ use Rattle.t1_run.specs.State.{State, initial}
 use Rattle.t1_run.specs.Step.{Step, Next, Call, Back, End, Compose, Fault}
 use Rattle.t1_run.specs.Words.{step}
 use Rattle.t1_run.specs.Run.{FontBodies, entering, composite_of}
-use Rattle.t1_chain.specs.Failing.{Ending, OutOfWords, Returned, Completed, Failed, Failure, Follower, Caller, LeadsLaw, LeadsTo, LeadsToWord, act, call_within, called, called_at, composed, endings, failure_at, failure_by, failure_in, fails_at, too_deep, unmeasured, words_from}
+use Rattle.t1_chain.specs.Failing.{Ending, OutOfWords, Returned, Completed, Failed, Failure, Follower, CallFollower, LeadsLaw, LeadsTo, LeadsToWord, follow_step, followed_within, followed_call, called_at, followed_composite, endings, failure_at, failure_by, failure_in, fails_at, followed_too_deep, unmeasured, words_from}
 use Rattle.t1_chain.specs.declared.failure.Call.{Call as SubrCall}
 use Rattle.t1_chain.specs.declared.failure.Detail.TheVariants.{Nothing}
 
@@ -39,13 +39,13 @@ after-stands m count word n fails next below own rest (Ok (Completed s)) h = tt
 after-stands m count word n fails next below own rest (Ok (Failed f)) h = (below, h)
 after-stands m count word n fails next below own rest (Err code) h = own code
 
-composed-stands : (m : FontBodies) (count : ℕ) (fails : Code → Failure) (s : State) → AreOwn m count fails → (r : Result Composite Code) → Stands m count (composed fails s r)
+composed-stands : (m : FontBodies) (count : ℕ) (fails : Code → Failure) (s : State) → AreOwn m count fails → (r : Result Composite Code) → Stands m count (followed_composite fails s r)
 composed-stands m count fails s own (Ok composite) = tt
 composed-stands m count fails s own (Err code) = own code
 
-act-stands : (m : FontBodies) (count word : ℕ) (caller : Caller) (fails : Code → Failure) (next : Follower)
+act-stands : (m : FontBodies) (count word : ℕ) (caller : CallFollower) (fails : Code → Failure) (next : Follower)
     → ((n : ℕ) (s : State) → StandsIn m n (caller n s)) → word < count → AreOwn m count fails → ((s : State) → Stands m count (next s))
-    → (t : Step) → Stands m count (act m caller fails word next t)
+    → (t : Step) → Stands m count (follow_step m caller fails word next t)
 act-stands m count word caller fails next calls below own rest (Next s) = rest s
 act-stands m count word caller fails next calls below own rest (Call n s) = after-stands m count word n fails next below own rest (caller n s) (calls n s)
 act-stands m count word caller fails next calls below own rest (Back s) = below
@@ -53,7 +53,7 @@ act-stands m count word caller fails next calls below own rest (End s) = tt
 act-stands m count word caller fails next calls below own rest (Compose a s) = composed-stands m count fails s own (composite_of m.glyphs a)
 act-stands m count word caller fails next calls below own rest (Fault code) = own code
 
-words-stand : (m : FontBodies) (caller : Caller) → ((n : ℕ) (s : State) → StandsIn m n (caller n s))
+words-stand : (m : FontBodies) (caller : CallFollower) → ((n : ℕ) (s : State) → StandsIn m n (caller n s))
     → (count word : ℕ) (cs : List Command) → word + length cs ≡ count → (s : State) → Stands m count (words_from m caller word cs s)
 words-stand m caller calls count word [] all s = tt
 words-stand m caller calls count word (c ∷ cs) all s =
@@ -64,15 +64,15 @@ words-stand m caller calls count word (c ∷ cs) all s =
 
 called-stands : (m : FontBodies) (n : ℕ) (run : List Command → State → Result Ending Code)
     → ((body : List Command) → m.subrs n ≡ Some body → (s : State) → StandsIn m n (run body s))
-    → (body : Option (List Command)) → m.subrs n ≡ body → (s : State) → StandsIn m n (called run body n s)
+    → (body : Option (List Command)) → m.subrs n ≡ body → (s : State) → StandsIn m n (followed_call run body n s)
 called-stands m n run h None e s = tt
 called-stands m n run h (Some body) e s = h body e (entering n s)
 
-calls-stand : (m : FontBodies) (levels n : ℕ) (s : State) → StandsIn m n (call_within m levels n s)
-calls-stand m zero n s = called-stands m n too_deep (λ body. λ e. λ t. tt) (m.subrs n) refl s
+calls-stand : (m : FontBodies) (levels n : ℕ) (s : State) → StandsIn m n (followed_within m levels n s)
+calls-stand m zero n s = called-stands m n followed_too_deep (λ body. λ e. λ t. tt) (m.subrs n) refl s
 calls-stand m (suc levels) n s =
-    called-stands m n (λ body. λ t. Ok (words_from m (call_within m levels) 0 body t))
-    (λ body. λ e. λ t. (body, e, words-stand m (call_within m levels) (calls-stand m levels) (length body) 0 body (omega arith) t)) (m.subrs n) refl s
+    called-stands m n (λ body. λ t. Ok (words_from m (followed_within m levels) 0 body t))
+    (λ body. λ e. λ t. (body, e, words-stand m (followed_within m levels) (calls-stand m levels) (length body) 0 body (omega arith) t)) (m.subrs n) refl s
 
 led : (m : FontBodies) (count : ℕ) (one f : Failure) → LeadsTo m count one.calls one.word → one ≡ f → LeadsTo m count f.calls f.word
 led m count one f h e = subst (λ (x : Failure). LeadsTo m count x.calls x.word) e h
@@ -93,4 +93,4 @@ from-ending m count (Failed failure) f h e = led m count failure f (or-end m cou
 pub calls_lead : LeadsLaw
 unfolding failure_in
 calls_lead m body f e =
-    from-ending m (length body) (endings m 10 body initial) f (words-stand m (call_within m 10) (calls-stand m 10) (length body) 0 body (omega arith) initial) e
+    from-ending m (length body) (endings m 10 body initial) f (words-stand m (followed_within m 10) (calls-stand m 10) (length body) 0 body (omega arith) initial) e

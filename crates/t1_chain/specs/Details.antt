@@ -16,9 +16,9 @@ use Rattle.t1_chain.specs.declared.failure.Detail.{Detail}
 use Rattle.t1_chain.specs.declared.failure.Detail.TheVariants.{Nothing, Number, Quotient, Glyph, Values, Points}
 
 -- profile, faults: the number, where there is one
-abbrev pub number_of : Option Fraction → Detail
-number_of None = Nothing
-number_of (Some a) = Number a
+abbrev pub number_detail : Option Fraction → Detail
+number_detail None = Nothing
+number_detail (Some a) = Number a
 
 -- Type 1 Font Format, Chapter 6 (callsubr, callothersubr): the number on the top of the stack
 abbrev pub top_of : List Fraction → Option Fraction
@@ -66,7 +66,7 @@ quotient_of (Some (a, b)) = if unsigned_abs b.num == 0 then Nothing else quotien
 -- profile, limits: what of a command is too large: an operand past 32000; of div, whose operands have no limit, the quotient
 abbrev pub large_told : Command → List Fraction → Detail
 large_told Div stack = quotient_of (both_of (topmost 2 stack))
-large_told c stack = number_of (too_large c stack)
+large_told c stack = number_detail (too_large c stack)
 
 -- Type 1 Font Format, Chapter 6 (seac): the code of the base, or of the accent, that has no name
 abbrev pub unnamed : Option (Fraction × Fraction) → Detail
@@ -96,10 +96,10 @@ points_told (Some n) = Points n
 -- profile, faults: what a fault of a command says, by the glyphs of the font, the stack before the command and the points of a flex
 unfoldable pub detail_of : (List ℕ → Option (List Command)) → Code → Command → List Fraction → Option ℕ → Detail
 detail_of glyphs F30 c stack points = Values (length stack) (wanted c stack)
-detail_of glyphs F32 c stack points = number_of (top_of stack)
+detail_of glyphs F32 c stack points = number_detail (top_of stack)
 detail_of glyphs F37 c stack points = large_told c stack
 detail_of glyphs F41 c stack points = points_told points
-detail_of glyphs F42 c stack points = number_of (top_of stack)
+detail_of glyphs F42 c stack points = number_detail (top_of stack)
 detail_of glyphs F44 c stack points = unnamed (both_of (topmost 2 stack))
 detail_of glyphs F45 c stack points = missing glyphs (both_of (topmost 2 stack))
 detail_of glyphs code c stack points = Nothing

@@ -30,8 +30,8 @@ abbrev pub failure_at : ℕ → Detail → Code → Failure
 failure_at word detail code = record { code = code; calls = []; word = word; detail = detail }
 
 -- profile, faults: a failure in the Subr that this call enters
-abbrev pub within : Call → Failure → Failure
-within call f = record f { calls = call ∷ f.calls }
+abbrev pub within_call : Call → Failure → Failure
+within_call call f = record f { calls = call ∷ f.calls }
 
 -- profile, faults: how a list of commands stops, and where
 pub data Ending : Type 0 where
@@ -49,61 +49,61 @@ abbrev pub Follower : Type 0
 Follower = State → Ending
 
 -- profile: what a call of a Subr does from there, or the fault of the call
-abbrev pub Caller : Type 0
-Caller = ℕ → State → Result Ending Code
+abbrev pub CallFollower : Type 0
+CallFollower = ℕ → State → Result Ending Code
 
 -- Type 1 Font Format, Chapter 6 (return): where the Subr that this call entered is over, the caller goes on
-abbrev pub go_on : Call → Follower → Ending → Ending
-go_on call next (OutOfWords s) = next s
-go_on call next (Returned word s) = next s
-go_on call next (Completed s) = Completed s
-go_on call next (Failed failure) = Failed (within call failure)
+abbrev pub caller_goes_on : Call → Follower → Ending → Ending
+caller_goes_on call next (OutOfWords s) = next s
+caller_goes_on call next (Returned word s) = next s
+caller_goes_on call next (Completed s) = Completed s
+caller_goes_on call next (Failed failure) = Failed (within_call call failure)
 
 -- profile, faults: a call, of which the word fails so
 abbrev pub called_at : (Code → Failure) → Call → Follower → Result Ending Code → Ending
-called_at fails call next (Ok ending) = go_on call next ending
+called_at fails call next (Ok ending) = caller_goes_on call next ending
 called_at fails call next (Err code) = Failed (fails code)
 
 -- profile, faults: the run ends with its composite, or at this word
-abbrev pub composed : (Code → Failure) → State → Result Composite Code → Ending
-composed fails s (Ok composite) = Completed s
-composed fails s (Err code) = Failed (fails code)
+abbrev pub followed_composite : (Code → Failure) → State → Result Composite Code → Ending
+followed_composite fails s (Ok composite) = Completed s
+followed_composite fails s (Err code) = Failed (fails code)
 
 -- profile, faults: what the step of this word does to the run; where the word is refused, it fails so
-abbrev pub act : FontBodies → Caller → (Code → Failure) → ℕ → Follower → Step → Ending
-act m caller fails word next (steps.Next s) = next s
-act m caller fails word next (steps.Call n s) = called_at fails (record { word = word; subr = n }) next (caller n s)
-act m caller fails word next (steps.Back s) = Returned word s
-act m caller fails word next (steps.End s) = Completed s
-act m caller fails word next (steps.Compose a s) = composed fails s (composite_of m.glyphs a)
-act m caller fails word next (steps.Fault code) = Failed (fails code)
+abbrev pub follow_step : FontBodies → CallFollower → (Code → Failure) → ℕ → Follower → Step → Ending
+follow_step m caller fails word next (steps.Next s) = next s
+follow_step m caller fails word next (steps.Call n s) = called_at fails (record { word = word; subr = n }) next (caller n s)
+follow_step m caller fails word next (steps.Back s) = Returned word s
+follow_step m caller fails word next (steps.End s) = Completed s
+follow_step m caller fails word next (steps.Compose a s) = followed_composite fails s (composite_of m.glyphs a)
+follow_step m caller fails word next (steps.Fault code) = Failed (fails code)
 
 -- profile, faults: the failure at this word, which is this command, from this state
 abbrev pub fails_at : FontBodies → ℕ → Command → State → Code → Failure
 fails_at m word c s code = failure_at word (detail_of m.glyphs code c s.stack (recorded_in s.flex)) code
 
 -- Type 1 Font Format, Chapter 6: the words one after another, the first of which is this word of its list
-abbrev pub words_from : FontBodies → Caller → ℕ → List Command → Follower
+abbrev pub words_from : FontBodies → CallFollower → ℕ → List Command → Follower
 words_from m caller word [] s = OutOfWords s
-words_from m caller word (c ∷ cs) s = act m caller (fails_at m word c s) word (words_from m caller (word + 1) cs) (step c s)
+words_from m caller word (c ∷ cs) s = follow_step m caller (fails_at m word c s) word (words_from m caller (word + 1) cs) (step c s)
 
 -- Type 1 Font Format, Chapter 6 (callsubr): a Subr's body, run so; F32 where there is no such Subr
-abbrev pub called : (List Command → State → Result Ending Code) → Option (List Command) → Caller
-called run None n s = Err F32
-called run (Some body) n s = run body (entering n s)
+abbrev pub followed_call : (List Command → State → Result Ending Code) → Option (List Command) → CallFollower
+followed_call run None n s = Err F32
+followed_call run (Some body) n s = run body (entering n s)
 
 -- profile, limits: a body that is called where no Subr more may be active
-abbrev pub too_deep : List Command → State → Result Ending Code
-too_deep body s = Err F33
+abbrev pub followed_too_deep : List Command → State → Result Ending Code
+followed_too_deep body s = Err F33
 
 -- profile, limits: a call, where so many Subrs more may be active at once
-abbrev pub call_within : FontBodies → ℕ → Caller
-call_within m zero n s = called too_deep (m.subrs n) n s
-call_within m (suc levels) n s = called (λ body. λ t. Ok (words_from m (call_within m levels) 0 body t)) (m.subrs n) n s
+abbrev pub followed_within : FontBodies → ℕ → CallFollower
+followed_within m zero n s = followed_call followed_too_deep (m.subrs n) n s
+followed_within m (suc levels) n s = followed_call (λ body. λ t. Ok (words_from m (followed_within m levels) 0 body t)) (m.subrs n) n s
 
 -- profile, limits: how a list of commands stops, where so many Subrs may be active at once
 abbrev pub endings : FontBodies → ℕ → List Command → Follower
-endings m levels = words_from m (call_within m levels) 0
+endings m levels = words_from m (followed_within m levels) 0
 
 -- profile: endchar and seac ask for the side bearing, so it is set where a run ends by them
 abbrev pub unmeasured : ℕ → Option Metric → Option Failure

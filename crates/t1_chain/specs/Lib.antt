@@ -1,3 +1,4 @@
 pub mod Details
 pub mod Failing
+pub mod GlyphFailures
 pub mod Machine

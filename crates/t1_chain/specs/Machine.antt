@@ -11,7 +11,7 @@ use Rattle.t1_run.specs.Run.{FontBodies, composite_of}
 use Rattle.t1_run.specs.State.{State}
 use Rattle.t1_run.specs.Step.{Step, Next}
 use Rattle.t1_run.specs.Words.{step}
-use Rattle.t1_chain.specs.Failing.{Failure, Ending, OutOfWords, Returned, Completed, Failed, Caller, Follower, act, call_within, called_at, fails_at}
+use Rattle.t1_chain.specs.Failing.{Failure, Ending, OutOfWords, Returned, Completed, Failed, CallFollower, Follower, follow_step, followed_within, called_at, fails_at}
 use Rattle.t1_chain.specs.Details.{recorded_in}
 use Rattle.t1_chain.specs.declared.failure.Failure.{Failure as FailureFields}
 use Rattle.t1_chain.specs.declared.ending.Asked.{Asked}
@@ -21,15 +21,15 @@ use Rattle.t1_chain.specs.declared.ending.Ending.TheVariants as endings
 use Rattle.t1_chain.specs.declared.noted.Noted.{Noted}
 
 -- word: a failure as the definitions see it
-abbrev pub seen : FailureFields → Failure
-seen f = record { code = f.code; calls = f.calls.items; word = f.word; detail = f.detail }
+abbrev pub failure_seen : FailureFields → Failure
+failure_seen f = record { code = f.code; calls = f.calls.items; word = f.word; detail = f.detail }
 
 -- word: the ending that the code names, in this state
 abbrev pub ending_of : EndingFields → State → Ending
 ending_of endings.OutOfWords s = OutOfWords s
 ending_of (endings.Returned word) s = Returned word s
 ending_of endings.Completed s = Completed s
-ending_of (endings.Failed failure) s = Failed (seen failure)
+ending_of (endings.Failed failure) s = Failed (failure_seen failure)
 
 -- word: the ending, or what the next word does
 abbrev pub ending_or : Follower → Option EndingFields → State → Ending
@@ -64,17 +64,17 @@ asked_by word controls.End = Over endings.Completed
 asked_by word (controls.Compose a) = Over endings.Completed
 
 -- word: what the run does from this word on, where this is left to it
-abbrev pub asked_of : Caller → (Code → Failure) → ℕ → Follower → Asked → State → Ending
-asked_of caller fails word next Word s = next s
-asked_of caller fails word next (Subr n) s = called_at fails (record { word = word; subr = n }) next (caller n s)
-asked_of caller fails word next (Over ending) s = ending_of ending s
+abbrev pub after_asked : CallFollower → (Code → Failure) → ℕ → Follower → Asked → State → Ending
+after_asked caller fails word next Word s = next s
+after_asked caller fails word next (Subr n) s = called_at fails (record { word = word; subr = n }) next (caller n s)
+after_asked caller fails word next (Over ending) s = ending_of ending s
 
 -- word: the step of this word, which is this command, leaves this to the run, whatever comes after it
 abbrev pub Acts : FontBodies → ℕ → ℕ → Command → Asked → State → State → Type 0
 Acts m levels word c asked before after =
     (next : Follower)
-    → act m (call_within m levels) (fails_at m word c before) word next (step c before)
-    ≡ asked_of (call_within m levels) (fails_at m word c before) word next asked after
+    → follow_step m (followed_within m levels) (fails_at m word c before) word next (step c before)
+    ≡ after_asked (followed_within m levels) (fails_at m word c before) word next asked after
 
 -- word: a Subr that is asked for is there, and one more may be active
 abbrev pub MayEnter : ℕ → (ℕ → Option (List Command)) → Asked → Type 0

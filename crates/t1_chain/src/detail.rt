@@ -6,7 +6,7 @@ ghost use Rattle.t1_frac.specs.Limits.{exceeds};
 ghost use Rattle.t1_run.specs.Operands.{topmost as topmost_of};
 ghost use Rattle.t1_chain.specs.Details.{arguments_by, both_of, detail_of as detail_of_word};
 ghost use Rattle.t1_chain.specs.Details.{large_above as large_above_arguments, large_in, lacking};
-ghost use Rattle.t1_chain.specs.Details.{large_told, missing, number_of, points_told};
+ghost use Rattle.t1_chain.specs.Details.{large_told, missing, number_detail, points_told};
 ghost use Rattle.t1_chain.specs.Details.{quotient_of, too_large, top_of};
 ghost use Rattle.t1_chain.specs.Details.{unnamed as unnamed_of, wanted as wanted_by};
 
@@ -108,7 +108,7 @@ fn large_operand(command: Command, values: &[Frac]) -> Option<Frac>
 
 /// A number, where there is one.
 fn number(value: Option<Frac>) -> Detail
-    ensures { result ≡ number_of value }
+    ensures { result ≡ number_detail value }
 {
     match value {
         Some(value) => Detail::Number(value),

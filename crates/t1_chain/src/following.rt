@@ -4,9 +4,10 @@ ghost use Rattle.std.specs.Prelude.{◌≡◌, ◌∷◌, is_some, IfOk, option_
 ghost use Rattle.t1_run.specs.Machine.{state_of};
 ghost use Rattle.t1_run.specs.Run.{font};
 ghost use Rattle.t1_run.specs.State.{State as StateOf};
-ghost use Rattle.t1_chain.specs.Failing.{endings, failure_at, failure_by, failure_in, go_on};
-ghost use Rattle.t1_chain.specs.Failing.{within, Follower};
-ghost use Rattle.t1_chain.specs.Machine.{ending_of, ending_or, seen};
+ghost use Rattle.t1_chain.specs.Failing.{endings, failure_at, failure_by, failure_in};
+ghost use Rattle.t1_chain.specs.Failing.{caller_goes_on};
+ghost use Rattle.t1_chain.specs.Failing.{within_call, Follower};
+ghost use Rattle.t1_chain.specs.Machine.{ending_of, ending_or, failure_seen};
 
 use crate::ending::{Asked, Ending};
 use crate::failure::{Call, Detail, Failure};
@@ -22,7 +23,7 @@ const MAX_ACTIVE: u8 = 10;
 
 /// A failure in the Subr that a call entered.
 fn in_call(call: Call, failure: Failure) -> Result<Failure, AllocError>
-    ensures { IfOk result (λ outer. seen outer ≡ within call (seen failure)) }
+    ensures { IfOk result (λ outer. failure_seen outer ≡ within_call call (failure_seen failure)) }
 {
     let mut calls = failure.calls;
     calls.insert(0, call)?;
@@ -37,7 +38,7 @@ fn in_call(call: Call, failure: Failure) -> Result<Failure, AllocError>
 /// How the run stops where the Subr that a call entered stops so; nothing where the caller goes on.
 fn after_call(call: Call, ending: Ending) -> Result<Option<Ending>, AllocError>
     ensures { IfOk result (λ left. (next : Follower) (s : StateOf) →
-        go_on call next (ending_of ending s) ≡ ending_or next left s) }
+        caller_goes_on call next (ending_of ending s) ≡ ending_or next left s) }
 {
     match ending {
         Ending::OutOfWords | Ending::Returned(_) => Ok(None),
@@ -87,7 +88,7 @@ fn follow<B: Bodies>(
 
 /// A failure of a glyph's own body that has no detail.
 fn own_failure(alloc: Global, word: usize, code: Code) -> Failure
-    ensures { seen result ≡ failure_at word Detail.Nothing code }
+    ensures { failure_seen result ≡ failure_at word Detail.Nothing code }
 {
     Failure {
         code,
@@ -101,7 +102,7 @@ fn own_failure(alloc: Global, word: usize, code: Code) -> Failure
 /// bearing is set.
 fn own_ending(alloc: Global, count: usize, measured: bool, ending: Ending) -> Option<Failure>
     ensures { (s : StateOf) → is_some s.metric ≡ measured →
-        option_map seen result ≡ failure_by count (ending_of ending s) }
+        option_map failure_seen result ≡ failure_by count (ending_of ending s) }
 {
     match ending {
         Ending::OutOfWords => Some(own_failure(alloc, count, Code::F35)),
@@ -124,7 +125,7 @@ pub fn failure_of<B: Bodies>(
     body: &[Command],
 ) -> Result<Option<Failure>, AllocError>
     ensures { IfOk result (λ failure.
-        option_map seen failure
+        option_map failure_seen failure
         ≡ failure_in (font (B.subrs bodies.now) (B.glyphs bodies.now)) body.now) }
 {
     let mut state = State::new(alloc, Vec::new(alloc));

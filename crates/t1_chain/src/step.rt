@@ -10,7 +10,8 @@ ghost use Rattle.t1_run.specs.Words.{step as step_of};
 ghost use Rattle.t1_run.specs.declared.outline.Composite.{Composite as CompositeOf};
 ghost use Rattle.t1_chain.specs.Details.{detail_of as detail_of_word, recorded_in};
 ghost use Rattle.t1_chain.specs.Failing.{failure_at as failure_at_word};
-ghost use Rattle.t1_chain.specs.Machine.{asked_by, asking, refused_call, refused_control, seen};
+ghost use Rattle.t1_chain.specs.Machine.{asked_by, asking, refused_call, refused_control};
+ghost use Rattle.t1_chain.specs.Machine.{failure_seen};
 ghost use Rattle.t1_chain.specs.Machine.{Acts, MayEnter, Notes};
 
 use crate::detail::detail_of;
@@ -52,7 +53,7 @@ fn failure_at<B: Bodies>(
     code: Code,
 ) -> Result<Failure, AllocError>
     ensures { IfOk result (λ failure.
-        seen failure ≡ failure_at_word word
+        failure_seen failure ≡ failure_at_word word
         (detail_of_word (B.glyphs bodies.now) code command noted.now.stack.items
         noted.now.points) code) }
 {

@@ -15,8 +15,8 @@ use Rattle.t1_run.specs.Run.{Key, Subr, Glyph}
 use Rattle.t1_charstrings.specs.declared.entries.Charstrings.{Charstrings}
 use Rattle.t1_charstrings.specs.Changed.{Sets}
 use Rattle.t1_charstrings.specs.Entries.{KeptCharstring}
-use Rattle.t1_charstrings.specs.Kept.{kept_at}
-use Rattle.t1_charstrings.specs.Lines.{kept_entry_line, kept_line, kept_text}
+use Rattle.t1_charstrings.specs.Kept.{charstring_at}
+use Rattle.t1_charstrings.specs.Lines.{kept_entry_line, kept_line, kept_lines_text}
 use Rattle.t1_font.proofs.Lookups.{bytes_tell, numbers_tell, Distinguishes}
 use Rattle.t1_charstrings.specs.Sums.{has_key, item_at, section_line, section_lines_text, InsertLenLaw, PutLenLaw, RaisedLenLaw, RemoveLenLaw}
 
@@ -34,14 +34,14 @@ same-line : (key : Key) (entry : Option KeptCharstring) (old new : Charstrings) 
 same-line key entry old new sets operator (items.Plain l) h = refl
 same-line key entry old new sets operator (items.Section before n after) h = refl
 same-line (Subr m) entry old new sets operator (items.Subr n ws closing) h =
-    ap (kept_entry_line operator closing) (sets (Subr n) ∙ ap (λ b. cond b entry (kept_at old (Subr n))) (turned nat_eq numbers_tell m n h))
+    ap (kept_entry_line operator closing) (sets (Subr n) ∙ ap (λ b. cond b entry (charstring_at old (Subr n))) (turned nat_eq numbers_tell m n h))
 same-line (Glyph g) entry old new sets operator (items.Subr n ws closing) h = ap (kept_entry_line operator closing) (sets (Subr n))
 same-line (Subr m) entry old new sets operator (items.Glyph g ws closing) h = ap (kept_entry_line operator closing) (sets (Glyph g))
 same-line (Glyph f) entry old new sets operator (items.Glyph g ws closing) h =
-    ap (kept_entry_line operator closing) (sets (Glyph g) ∙ ap (λ b. cond b entry (kept_at old (Glyph g))) (turned bytes_eq bytes_tell f g h))
+    ap (kept_entry_line operator closing) (sets (Glyph g) ∙ ap (λ b. cond b entry (charstring_at old (Glyph g))) (turned bytes_eq bytes_tell f g h))
 
 same-lines : (key : Key) (entry : Option KeptCharstring) (old new : Charstrings) → Sets key entry old new → (operator : List ℕ) (is : List Item) → list_any (has_key key) is ≡ false
-    → kept_text new operator is ≡ kept_text old operator is
+    → kept_lines_text new operator is ≡ kept_lines_text old operator is
 same-lines key entry old new sets operator [] h = refl
 same-lines key entry old new sets operator (i ∷ is) h =
     let h' = or_parts (has_key key i) (list_any (has_key key) is) h in
@@ -50,8 +50,8 @@ same-lines key entry old new sets operator (i ∷ is) h =
 -- ---- one item in the place of another, put in, taken out
 
 pub text-both : (c : Charstrings) (operator : List ℕ) (i : Item) (is : List Item)
-    → length (kept_text c operator (i ∷ is)) ≡ length (kept_line c operator i) + length (kept_text c operator is)
-text-both c operator i is = length-append (kept_line c operator i) (kept_text c operator is)
+    → length (kept_lines_text c operator (i ∷ is)) ≡ length (kept_line c operator i) + length (kept_lines_text c operator is)
+text-both c operator i is = length-append (kept_line c operator i) (kept_lines_text c operator is)
 
 -- no other item has the key
 abbrev pub Alone : (Item → Bool) → ℕ → List Item → Type 0
@@ -61,8 +61,8 @@ Alone test (suc at) (i ∷ is) = (test i ≡ false) × Alone test at is
 
 module _ (key : Key) (entry : Option KeptCharstring) (old new : Charstrings) (sets : Sets key entry old new) (operator : List ℕ) where
   put-len : (is : List Item) (at : ℕ) (item : Item) → at < length is → Alone (has_key key) at is
-      → length (kept_text new operator (slice_set is at item)) + length (kept_line old operator (item_at is at))
-      ≡ length (kept_text old operator is) + length (kept_line new operator item)
+      → length (kept_lines_text new operator (slice_set is at item)) + length (kept_line old operator (item_at is at))
+      ≡ length (kept_lines_text old operator is) + length (kept_line new operator item)
   put-len [] at item within alone = absurd (omega (arith, within))
   put-len (i ∷ is) zero item within alone =
       let rest = ap (λ (t : List ℕ). length t) (same-lines key entry old new sets operator is alone) in
@@ -73,7 +73,7 @@ module _ (key : Key) (entry : Option KeptCharstring) (old new : Charstrings) (se
       omega (arith, first, rest, text-both new operator i (slice_set is at item), text-both old operator i is)
 
   remove-len : (is : List Item) (at : ℕ) → at < length is → Alone (has_key key) at is
-      → length (kept_text new operator (remove is at)) + length (kept_line old operator (item_at is at)) ≡ length (kept_text old operator is)
+      → length (kept_lines_text new operator (remove is at)) + length (kept_line old operator (item_at is at)) ≡ length (kept_lines_text old operator is)
   remove-len [] at within alone = absurd (omega (arith, within))
   remove-len (i ∷ is) zero within alone =
       let rest = ap (λ (t : List ℕ). length t) (same-lines key entry old new sets operator is alone) in
@@ -84,7 +84,7 @@ module _ (key : Key) (entry : Option KeptCharstring) (old new : Charstrings) (se
       omega (arith, first, rest, text-both new operator i (remove is at), text-both old operator i is)
 
   insert-len : (is : List Item) (at : ℕ) (item : Item) → at ≤ length is → list_any (has_key key) is ≡ false
-      → length (kept_text new operator (insert is at item)) ≡ length (kept_text old operator is) + length (kept_line new operator item)
+      → length (kept_lines_text new operator (insert is at item)) ≡ length (kept_lines_text old operator is) + length (kept_line new operator item)
   insert-len is zero item within none =
       let rest = ap (λ (t : List ℕ). length t) (same-lines key entry old new sets operator is none) in
       omega (arith, rest, text-both new operator item is)
@@ -182,8 +182,8 @@ raised-one subrs glyphs c operator (items.Subr n ws closing) = refl
 raised-one subrs glyphs c operator (items.Glyph g ws closing) = refl
 
 raised-len : (subrs glyphs : ℕ) (c : Charstrings) (operator : List ℕ) (is : List Item)
-    → length (kept_text c operator (map (raised_item subrs glyphs) is)) + length (section_lines_text is)
-    ≡ length (kept_text c operator is) + length (section_lines_text (map (raised_item subrs glyphs) is))
+    → length (kept_lines_text c operator (map (raised_item subrs glyphs) is)) + length (section_lines_text is)
+    ≡ length (kept_lines_text c operator is) + length (section_lines_text (map (raised_item subrs glyphs) is))
 raised-len subrs glyphs c operator [] = refl
 raised-len subrs glyphs c operator (i ∷ is) =
     let j = raised_item subrs glyphs i in

@@ -20,7 +20,7 @@ use Rattle.t1_charstrings.specs.declared.entries.Charstrings.{Charstrings}
 use Rattle.t1_charstrings.specs.Batch.{is_gone, fresh_over, text_by, AreEdits, AreFresh, AreGone, IsBatchOf}
 use Rattle.t1_charstrings.specs.Changed.{AreSameCharstrings}
 use Rattle.t1_charstrings.specs.Entries.{KeptCharstring, encrypted, glyph_charstring, subr_charstring}
-use Rattle.t1_charstrings.specs.Kept.{AreEncrypted, kept_at}
+use Rattle.t1_charstrings.specs.Kept.{AreEncrypted, charstring_at}
 use Rattle.t1_font.specs.Lengths.{IsPrivateLen}
 use Rattle.t1_charstrings.specs.Ready.{HasCharstringRoom, IsReadyLines, SettlesTo}
 use Rattle.t1_font.proofs.Keys.{at-key, at-same, included}
@@ -32,7 +32,7 @@ use Rattle.t1_charstrings.proofs.Texts.{text_by_is, Serves}
 
 module _ (keys : List Key) (s made : SourceParts) (c : Charstrings) (batch : IsBatchOf keys s made c) where
   -- the charstrings of the entries that weren't edited stay
-  old-stays : (k : Key) → list_any (key_eq k) keys ≡ false → kept_at c k ≡ option_map (encrypted (lead made) k) (body_at (bodies made.items) k)
+  old-stays : (k : Key) → list_any (key_eq k) keys ≡ false → charstring_at c k ≡ option_map (encrypted (lead made) k) (body_at (bodies made.items) k)
   old-stays k off =
       batch.0.kept.each k
       ∙ ap (option_map (encrypted (lead s) k)) (at-same (bodies s.items) (bodies made.items) k (batch.0.same.same k apart))
@@ -58,11 +58,11 @@ module _ (keys : List Key) (s made : SourceParts) (c : Charstrings) (batch : IsB
     sound = batch.0.sound;
     each = λ k.
         settles k
-        ∙ settled-at k (list_any (key_eq k) keys) (is_gone entries.gone.items k) (body_at (bodies made.items) k) (kept_at entries.fresh k) (kept_at old k)
+        ∙ settled-at k (list_any (key_eq k) keys) (is_gone entries.gone.items k) (body_at (bodies made.items) k) (charstring_at entries.fresh k) (charstring_at old k)
         (fresh k) (gone k) (λ off. kept-same k ∙ old-stays k off);
   } where
-    kept-same : (k : Key) → kept_at old k ≡ kept_at c k
-    kept-same = at-key (λ k. kept_at old k ≡ kept_at c k) (λ n. ap (λ es. subr_charstring es n) same.0) (λ g. ap (λ es. glyph_charstring es g) same.1)
+    kept-same : (k : Key) → charstring_at old k ≡ charstring_at c k
+    kept-same = at-key (λ k. charstring_at old k ≡ charstring_at c k) (λ n. ap (λ es. subr_charstring es n) same.0) (λ g. ap (λ es. glyph_charstring es g) same.1)
 
   -- fresh charstrings over the old ones are those of the bodies of the edited source
   over-at : (k : Key) (named : Bool) (body : List Command) (fresh old : Option KeptCharstring)
@@ -73,7 +73,7 @@ module _ (keys : List Key) (s made : SourceParts) (c : Charstrings) (batch : IsB
 
   pub over-serves : (fresh : Charstrings) → AreFresh (lead made) keys made fresh → Serves (lead made) made.items (fresh_over fresh c)
   over-serves fresh are k body there =
-      over-at k (list_any (key_eq k) keys) body (kept_at fresh k) (kept_at c k)
+      over-at k (list_any (key_eq k) keys) body (charstring_at fresh k) (charstring_at c k)
       (are k ∙ ap (λ b. cond (list_any (key_eq k) keys) (option_map (encrypted (lead made) k) b) None) there)
       (λ off. old-stays k off ∙ ap (option_map (encrypted (lead made) k)) there)
 

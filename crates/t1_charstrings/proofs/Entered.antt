@@ -37,9 +37,9 @@ use Rattle.t1_charstrings.specs.declared.entries.Charstrings.{Charstrings}
 use Rattle.t1_charstrings.specs.Batch.{item_line_by, fresh_over, AreFresh, IsBatchOf, IsEditOf}
 use Rattle.t1_charstrings.specs.Changed.{Sets}
 use Rattle.t1_charstrings.specs.Entries.{KeptCharstring, encrypted}
-use Rattle.t1_charstrings.specs.Kept.{AreEncrypted, kept_at}
+use Rattle.t1_charstrings.specs.Kept.{AreEncrypted, charstring_at}
 use Rattle.t1_font.specs.Lengths.{IsPrivateLen}
-use Rattle.t1_charstrings.specs.Lines.{kept_entry_line, kept_line, kept_text}
+use Rattle.t1_charstrings.specs.Lines.{kept_entry_line, kept_line, kept_lines_text}
 use Rattle.t1_charstrings.specs.Ready.{is_entry, old_len, replaced_len}
 use Rattle.t1_charstrings.specs.Sums.{AreEdited, has_key, item_at}
 use Rattle.t1_charstrings.proofs.Adding.{alone, text-both}
@@ -102,7 +102,7 @@ merged fresh c = record {
   glyphs = hash_map (fresh.glyphs.entries ++ c.glyphs.entries) (hasher_of c.glyphs) (spare c.glyphs);
 }
 
-merged-at : (fresh c : Charstrings) (k : Key) → kept_at (merged fresh c) k ≡ fresh_over fresh c k
+merged-at : (fresh c : Charstrings) (k : Key) → charstring_at (merged fresh c) k ≡ fresh_over fresh c k
 merged-at fresh c (Subr n) = lookup-both (nat_eq n) fresh.subrs.entries c.subrs.entries
 merged-at fresh c (Glyph g) = lookup-both (λ key. bytes_eq g key.items) fresh.glyphs.entries c.glyphs.entries
 
@@ -116,18 +116,18 @@ module _ (keys : List Key) (s made : SourceParts) (c fresh : Charstrings) (batch
   -- fresh charstrings over the old ones change what is kept at the one key where the sources differ
   pub over-sets : (key : Key) (body : List Command) → IsOther key (Some body) s made → Sets key (Some (encrypted (lead s) key body)) c (merged fresh c)
   over-sets key body other k = merged-at fresh c k ∙ by (key_eq k key) refl where
-    stays : (there : Option (List Command)) → body_at (bodies made.items) k ≡ there → kept_at c k ≡ option_map (encrypted (lead made) k) there
-        → fresh_over fresh c k ≡ kept_at c k
+    stays : (there : Option (List Command)) → body_at (bodies made.items) k ≡ there → charstring_at c k ≡ option_map (encrypted (lead made) k) there
+        → fresh_over fresh c k ≡ charstring_at c k
     stays (Some b) there old = over-serves keys s made c batch fresh are k b there ∙ sym old
     stays None there old =
-        ap (λ f. option_or f (kept_at c k))
+        ap (λ f. option_or f (charstring_at c k))
         (are k ∙ ap (λ r. cond (list_any (key_eq k) keys) (option_map (encrypted (lead made) k) r) None) there ∙ nothing (list_any (key_eq k) keys))
       where
         nothing : (b : Bool) → ◌≡◌ {A = Option KeptCharstring} (cond b None None) None
         nothing true = refl
         nothing false = refl
 
-    by : (b : Bool) → key_eq k key ≡ b → fresh_over fresh c k ≡ cond b (Some (encrypted (lead s) key body)) (kept_at c k)
+    by : (b : Bool) → key_eq k key ≡ b → fresh_over fresh c k ≡ cond b (Some (encrypted (lead s) key body)) (charstring_at c k)
     by true on =
         let is : k ≡ key = key-same k key on in
         over-serves keys s made c batch fresh are k body (ap (body_at (bodies made.items)) is ∙ other.own)
@@ -154,7 +154,7 @@ left (items.Subr n ws closing) c is =
       key = Subr n;
       has = numbers_tell.itself n;
       new = made;
-      sets = at-key (λ k. kept_at made k ≡ cond (key_eq k (Subr n)) None (kept_at c k)) (λ m. lookup-but nat_eq numbers_tell (λ k. k) n m c.subrs.entries) (λ g. refl);
+      sets = at-key (λ k. charstring_at made k ≡ cond (key_eq k (Subr n)) None (charstring_at c k)) (λ m. lookup-but nat_eq numbers_tell (λ k. k) n m c.subrs.entries) (λ g. refl);
     }
 left (items.Glyph g ws closing) c is =
     let made : Charstrings = record c { glyphs = hash_map (filter (λ e. not (bytes_eq g e.0.items)) c.glyphs.entries) (hasher_of c.glyphs) (spare c.glyphs) } in
@@ -162,7 +162,7 @@ left (items.Glyph g ws closing) c is =
       key = Glyph g;
       has = bytes_tell.itself g;
       new = made;
-      sets = at-key (λ k. kept_at made k ≡ cond (key_eq k (Glyph g)) None (kept_at c k)) (λ m. refl)
+      sets = at-key (λ k. charstring_at made k ≡ cond (key_eq k (Glyph g)) None (charstring_at c k)) (λ m. refl)
           (λ f. lookup-but bytes_eq bytes_tell (λ (k : Vec ℕ Global). k.items) g f c.glyphs.entries);
     }
 
@@ -184,7 +184,7 @@ len_small s n faultless known =
     ]
 
 -- a line isn't longer than the text
-line-within : (c : Charstrings) (o : List ℕ) (is : List Item) (at : ℕ) → at < length is → length (kept_line c o (item_at is at)) ≤ length (kept_text c o is)
+line-within : (c : Charstrings) (o : List ℕ) (is : List Item) (at : ℕ) → at < length is → length (kept_line c o (item_at is at)) ≤ length (kept_lines_text c o is)
 line-within c o [] at within = absurd (omega (arith, within))
 line-within c o (i ∷ is) zero within = omega (arith, text-both c o i is)
 line-within c o (i ∷ is) (suc at) within = omega (arith, text-both c o i is, line-within c o is at (omega (arith, within)))

@@ -21,7 +21,7 @@ use Rattle.t1_font.specs.Bodies.{bodies, bodies_check, body_check, glyph_in, sub
 use Rattle.t1_charstrings.specs.declared.entries.Charstrings.{Charstrings}
 use Rattle.t1_charstrings.specs.Changed.{Sets}
 use Rattle.t1_charstrings.specs.Entries.{encrypted}
-use Rattle.t1_charstrings.specs.Kept.{AreEncrypted, kept_at}
+use Rattle.t1_charstrings.specs.Kept.{AreEncrypted, charstring_at}
 use Rattle.t1_charstrings.specs.Sums.{has_key, item_at}
 use Rattle.t1_charstrings.proofs.Adding.{Alone}
 use Rattle.t1_font.proofs.Lookups.{bytes_tell, numbers_tell}
@@ -225,7 +225,7 @@ other_kept key body s made is old new kept sets = record {
   each = λ k. sets k ∙ by k (key_eq k key) refl;
 } where
   by : (k : Key) (b : Bool) → key_eq k key ≡ b
-      → cond b (option_map (encrypted (lead s) key) body) (kept_at old k) ≡ option_map (encrypted (lead made) k) (body_at (bodies made.items) k)
+      → cond b (option_map (encrypted (lead s) key) body) (charstring_at old k) ≡ option_map (encrypted (lead made) k) (body_at (bodies made.items) k)
   by k true on =
       ap (option_map (encrypted (lead s) key)) (sym is.own) ∙ ap (λ j. option_map (encrypted (lead s) j) (body_at (bodies made.items) j)) (sym (key-same k key on))
       ∙ ap (λ n. option_map (encrypted n k) (body_at (bodies made.items) k)) (sym is.front)

@@ -23,7 +23,7 @@ use Rattle.t1_charstrings.specs.Batch.{AreFresh, IsEditOf}
 use Rattle.t1_charstrings.specs.Entries.{encrypted}
 use Rattle.t1_charstrings.specs.Kept.{AreEncrypted}
 use Rattle.t1_font.specs.Lengths.{IsPrivateLen}
-use Rattle.t1_charstrings.specs.Lines.{kept_line, kept_text}
+use Rattle.t1_charstrings.specs.Lines.{kept_line, kept_lines_text}
 use Rattle.t1_charstrings.specs.Raising.{is_raised_counted, raised_check, raised_text}
 use Rattle.t1_charstrings.specs.Ready.{inserted_len, is_entry}
 use Rattle.t1_charstrings.specs.Sums.{AreEdited, has_key, item_at, section_line, section_lines_text}
@@ -132,10 +132,10 @@ counted-inserted subrs glyphs (i ∷ is) (suc at) x within on =
     ap (λ b. is_counted (raised_item subrs glyphs i) && b) (counted-inserted subrs glyphs is at x (omega (arith, within)) on)
 
 -- the section lines aren't longer than the text
-sections-within : (c : Charstrings) (o : List ℕ) (is : List Item) → length (section_lines_text is) ≤ length (kept_text c o is)
+sections-within : (c : Charstrings) (o : List ℕ) (is : List Item) → length (section_lines_text is) ≤ length (kept_lines_text c o is)
 sections-within c o [] = omega arith
 sections-within c o (i ∷ is) = by i (sections-within c o is) where
-  by : (i : Item) → length (section_lines_text is) ≤ length (kept_text c o is) → length (section_lines_text (i ∷ is)) ≤ length (kept_text c o (i ∷ is))
+  by : (i : Item) → length (section_lines_text is) ≤ length (kept_lines_text c o is) → length (section_lines_text (i ∷ is)) ≤ length (kept_lines_text c o (i ∷ is))
   by (items.Plain l) h = omega (arith, h, text-both c o (items.Plain l) is)
   by (items.Section before n after) h =
       omega (arith, h, text-both c o (items.Section before n after) is, length-append (section_line (items.Section before n after)) (section_lines_text is))

@@ -24,8 +24,8 @@ use Rattle.t1_font.specs.Lengths.{IsPrivateLen}
 use Rattle.t1_font.proofs.Compiling.{or-assoc}
 use Rattle.t1_charstrings.specs.declared.entries.Charstrings.{Charstrings}
 use Rattle.t1_charstrings.specs.Entries.{encrypted}
-use Rattle.t1_charstrings.specs.Kept.{kept_at, AreEncrypted, Encrypt}
-use Rattle.t1_charstrings.specs.Lines.{kept_line, kept_text}
+use Rattle.t1_charstrings.specs.Kept.{charstring_at, AreEncrypted, Encrypt}
+use Rattle.t1_charstrings.specs.Lines.{kept_line, kept_lines_text}
 use Rattle.t1_charstrings.specs.Raising.{raised_check}
 use Rattle.t1_source.specs.declared.editing.change.Change.{Change}
 use Rattle.t1_source.specs.declared.editing.change.Change.TheVariants as changes
@@ -34,7 +34,7 @@ use Rattle.t1_charstrings.specs.declared.made.Made.{Made}
 use Rattle.t1_charstrings.specs.declared.made.Made.TheVariants as made
 use Rattle.t1_charstrings.specs.declared.edited.EditedEntries.{EditedEntries}
 use Rattle.t1_charstrings.specs.Batch.{AreEdits, IsEditOf}
-use Rattle.t1_charstrings.specs.Made.{is_entry_changed, made_after, made_of, may_set_lead, source_of, IsFor, IsPreparedByEdits}
+use Rattle.t1_charstrings.specs.Made.{is_entry_changed, made_after, made_of, may_set_lead, source_before_edits, IsFor, IsPreparedByEdits}
 use Rattle.t1_charstrings.proofs.Entered.{left_front, put_front}
 use Rattle.t1_font.proofs.Checking.{raised-checks, check-both}
 use Rattle.t1_charstrings.proofs.Entering.{body_in, first-body, raised-bodies}
@@ -105,16 +105,16 @@ subrs-both (items.Glyph g ws closing ∷ a) b = subrs-both a b
 -- ---- lengths
 
 pub text-parts : (c : Charstrings) (o : List ℕ) (subrs glyphs : ℕ) (a b : List Item)
-    → length (kept_text c o (map (raised_item subrs glyphs) (a ++ b)))
-    ≡ length (kept_text c o (map (raised_item subrs glyphs) a)) + length (kept_text c o (map (raised_item subrs glyphs) b))
+    → length (kept_lines_text c o (map (raised_item subrs glyphs) (a ++ b)))
+    ≡ length (kept_lines_text c o (map (raised_item subrs glyphs) a)) + length (kept_lines_text c o (map (raised_item subrs glyphs) b))
 text-parts c o subrs glyphs [] b = omega arith
 text-parts c o subrs glyphs (i ∷ a) b =
     let one = kept_line c o (raised_item subrs glyphs i) in
     omega (
       arith,
       text-parts c o subrs glyphs a b,
-      length-append one (kept_text c o (map (raised_item subrs glyphs) (a ++ b))),
-      length-append one (kept_text c o (map (raised_item subrs glyphs) a)),
+      length-append one (kept_lines_text c o (map (raised_item subrs glyphs) (a ++ b))),
+      length-append one (kept_lines_text c o (map (raised_item subrs glyphs) a)),
     )
 
 -- ---- bodies
@@ -152,7 +152,7 @@ bodies-both (i ∷ a) b k =
 
 -- the charstrings of one part after those of others
 pub kept-both : (front : ℕ) (a b : List Item) (old new : Charstrings) → Encrypt front (bodies a) old
-    → ((k : Key) → kept_at new k ≡ option_or (kept_at old k) (option_map (encrypted front k) (body_at (bodies b) k)))
+    → ((k : Key) → charstring_at new k ≡ option_or (charstring_at old k) (option_map (encrypted front k) (body_at (bodies b) k)))
     → Encrypt front (bodies (a ++ b)) new
 kept-both front a b old new each added k =
     added k ∙ ap (λ r. option_or r (option_map (encrypted front k) (body_at (bodies b) k))) (each k)
@@ -160,15 +160,15 @@ kept-both front a b old new each added k =
     ∙ ap (option_map (encrypted front k)) (sym (bodies-both a b k))
 
 -- no charstrings are those of no items
-kept-none : (front : ℕ) (c : Charstrings) → ((k : Key) → kept_at c k ≡ None) → Encrypt front (bodies []) c
+kept-none : (front : ℕ) (c : Charstrings) → ((k : Key) → charstring_at c k ≡ None) → Encrypt front (bodies []) c
 kept-none front c h (Subr n) = h (Subr n)
 kept-none front c h (Glyph g) = h (Glyph g)
 
 -- what charstrings become where those of items are added
 abbrev pub Adds : ℕ → List Item → Charstrings → Charstrings → Type 0
-Adds front is old new = (k : Key) → kept_at new k ≡ option_or (kept_at old k) (option_map (encrypted front k) (body_at (bodies is) k))
+Adds front is old new = (k : Key) → charstring_at new k ≡ option_or (charstring_at old k) (option_map (encrypted front k) (body_at (bodies is) k))
 
-pub kept-parts : (front : ℕ) (a b c : List Item) (none first second third : Charstrings) → ((k : Key) → kept_at none k ≡ None)
+pub kept-parts : (front : ℕ) (a b c : List Item) (none first second third : Charstrings) → ((k : Key) → charstring_at none k ≡ None)
     → Adds front a none first → Adds front b first second → Adds front c second third → Encrypt front (bodies (a ++ (b ++ c))) third
 kept-parts front a b c none first second third empty one two three =
     subst (λ is. Encrypt front (bodies is) third) (append_assoc a b c)
@@ -198,11 +198,11 @@ module _ (is : List Item) (made : SourceParts) (whole : raised is ≡ made.items
   }
 
   pub len_made : (c : Charstrings) (subrs glyphs len : ℕ) → IsWellFormed made → AreEncrypted made c → subrs ≡ subrs_needed is → glyphs ≡ glyphs_needed is
-      → len ≡ min (length (kept_text c (operator_among is) (map (raised_item subrs glyphs) is))) (2 ^ 64 - 1) → IsPrivateLen made len
+      → len ≡ min (length (kept_lines_text c (operator_among is) (map (raised_item subrs glyphs) is))) (2 ^ 64 - 1) → IsPrivateLen made len
   len_made c subrs glyphs len well kept subrs_are glyphs_are len_is =
       kept_len made c (operator_among is) (raised is) len well kept operator-made whole
-      (len_is ∙ ap (λ n. min (length (kept_text c (operator_among is) (map (raised_item n glyphs) is))) (2 ^ 64 - 1)) subrs_are
-      ∙ ap (λ n. min (length (kept_text c (operator_among is) (map (raised_item (subrs_needed is) n) is))) (2 ^ 64 - 1)) glyphs_are)
+      (len_is ∙ ap (λ n. min (length (kept_lines_text c (operator_among is) (map (raised_item n glyphs) is))) (2 ^ 64 - 1)) subrs_are
+      ∙ ap (λ n. min (length (kept_lines_text c (operator_among is) (map (raised_item (subrs_needed is) n) is))) (2 ^ 64 - 1)) glyphs_are)
 
   pub counts_made : (subrs glyphs : ℕ) → subrs ≡ subrs_needed is → glyphs ≡ glyphs_needed is → counts_check made.items ≡ raised_check subrs glyphs is
   counts_made subrs glyphs subrs_are glyphs_are =
@@ -222,8 +222,8 @@ lead-changed (changes.PutPair at pair) s c fits edit entry = refl
 lead-changed (changes.InsertPair at pair) s c fits edit entry = refl
 lead-changed (changes.RemovePair at) s c fits edit entry = refl
 
-pub lead_kept : (m : Made) (len : ℕ) (c : Charstrings) (entries : EditedEntries) → IsPreparedByEdits m len → AreEdits (source_of m) (made_of m) c entries → may_set_lead m ≡ false
-    → lead (made_of m) ≡ lead (source_of m)
+pub lead_kept : (m : Made) (len : ℕ) (c : Charstrings) (entries : EditedEntries) → IsPreparedByEdits m len → AreEdits (source_before_edits m) (made_of m) c entries → may_set_lead m ≡ false
+    → lead (made_of m) ≡ lead (source_before_edits m)
 lead_kept (made.Edit source change) len c entries prepared edits off =
     lead-changed change.now source.now c prepared.fits edits.edit (not-false (is_entry_changed change.now source.now) off)
 lead_kept (made.Batch source of_batch) len c entries prepared edits off =

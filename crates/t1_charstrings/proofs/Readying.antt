@@ -14,7 +14,7 @@ use Rattle.t1_charstrings.specs.declared.entries.Charstrings.{Charstrings}
 use Rattle.t1_charstrings.specs.declared.settling.ReadyCharstrings.TheVariants as ready
 use Rattle.t1_charstrings.specs.Changed.{AreSameCharstrings}
 use Rattle.t1_charstrings.specs.Entries.{encrypted, glyph_charstring, subr_charstring}
-use Rattle.t1_charstrings.specs.Kept.{AreEncrypted, kept_at}
+use Rattle.t1_charstrings.specs.Kept.{AreEncrypted, charstring_at}
 use Rattle.t1_font.specs.Lengths.{IsPrivateLen}
 use Rattle.t1_charstrings.specs.Ready.{IsReadyLines}
 use Rattle.t1_font.proofs.Keys.{at-key}
@@ -23,7 +23,7 @@ use Rattle.t1_font.proofs.Keys.{at-key}
 pub unchanged : (s : SourceParts) (old new : Charstrings) → AreSameCharstrings old new → AreEncrypted s old → AreEncrypted s new
 unchanged s old new same kept = record {
   sound = kept.sound;
-  each = at-key (λ k. kept_at new k ≡ option_map (encrypted (lead s) k) (body_at (bodies s.items) k))
+  each = at-key (λ k. charstring_at new k ≡ option_map (encrypted (lead s) k) (body_at (bodies s.items) k))
       (λ n. ap (λ es. subr_charstring es n) same.0 ∙ kept.each (Subr n))
       (λ g. ap (λ es. glyph_charstring es g) same.1 ∙ kept.each (Glyph g));
 }

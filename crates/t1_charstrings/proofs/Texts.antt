@@ -28,8 +28,8 @@ use Rattle.t1_font.specs.Assembly.{entry_line as font_line, item_line, private_t
 use Rattle.t1_font.specs.Bodies.{bodies, bodies_check, body_check, glyph_among, glyph_in, subr_among, subr_in, words_check}
 use Rattle.t1_charstrings.specs.declared.entries.Charstrings.{Charstrings}
 use Rattle.t1_charstrings.specs.Batch.{item_line_by, text_by}
-use Rattle.t1_charstrings.specs.Entries.{KeptCharstring, encrypted, head_of}
-use Rattle.t1_charstrings.specs.Kept.{kept_at}
+use Rattle.t1_charstrings.specs.Entries.{KeptCharstring, encrypted, entry_head}
+use Rattle.t1_charstrings.specs.Kept.{charstring_at}
 use Rattle.t1_charstrings.specs.Laws.{KeptTextLaw}
 use Rattle.t1_charstrings.specs.Lines.{kept_entry_line, kept_line}
 
@@ -88,7 +88,7 @@ Serves front all at = (k : Key) (body : List Command) → body_at (bodies all) k
 line-of : (front : ℕ) (name closing : List ℕ) (place : Place) (key : Key) (r : Result (List Command) Code) (kept : Option KeptCharstring)
     → ((body : List Command) → result_ok r ≡ Some body → kept ≡ Some (encrypted front key body))
     → ◌≡◌ {A = Result (Unit {0}) Fault} (reported_at place r >>= λ _. Ok tt) (Ok tt)
-    → ◌≡◌ {A = Result (List ℕ) Fault} (reported_at place r >>= λ body. Ok (entry_text (head_of key) name (encrypted_charstring front (charstring body)) closing))
+    → ◌≡◌ {A = Result (List ℕ) Fault} (reported_at place r >>= λ body. Ok (entry_text (entry_head key) name (encrypted_charstring front (charstring body)) closing))
     (Ok (kept_entry_line name closing kept))
 line-of front name closing place key (Ok body) kept is h = sym (ap (λ k. Ok (kept_entry_line name closing k)) (is body refl))
 line-of front name closing place key (Err code) kept is h = absurd (cc)
@@ -136,7 +136,7 @@ text_by_is s at well sound each =
     text-kept (lead s) (operator s) at s.items each [] s.items refl
     (subst (AreFirst []) (sym p.whole) (first-all [] p.inner p.closefile p.stand)) sound
 
-kept-line : (c : Charstrings) (name : List ℕ) (i : Item) → item_line_by (kept_at c) name i ≡ kept_line c name i
+kept-line : (c : Charstrings) (name : List ℕ) (i : Item) → item_line_by (charstring_at c) name i ≡ kept_line c name i
 kept-line c name (items.Plain l) = refl
 kept-line c name (items.Section before n after) = refl
 kept-line c name (items.Subr n ws closing) = refl
@@ -144,5 +144,5 @@ kept-line c name (items.Glyph g ws closing) = refl
 
 pub kept_text_is : KeptTextLaw
 kept_text_is s c well kept =
-    text_by_is s (kept_at c) well kept.sound (λ k body there. kept.each k ∙ ap (option_map (encrypted (lead s) k)) there)
+    text_by_is s (charstring_at c) well kept.sound (λ k body there. kept.each k ∙ ap (option_map (encrypted (lead s) k)) there)
     ∙ (λ j. Ok (flat_map (λ i. kept-line c (operator s) i j) s.items))

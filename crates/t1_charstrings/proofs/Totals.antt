@@ -15,7 +15,7 @@ use Rattle.t1_font.specs.Assembly.{private_text}
 use Rattle.t1_run.specs.Run.{Key, Subr, Glyph}
 use Rattle.t1_charstrings.specs.declared.entries.Charstrings.{Charstrings}
 use Rattle.t1_font.specs.Lengths.{IsPrivateLen}
-use Rattle.t1_charstrings.specs.Lines.{kept_text}
+use Rattle.t1_charstrings.specs.Lines.{kept_lines_text}
 use Rattle.t1_charstrings.specs.Sums.{has_key, item_at, section_line, section_lines_text, InsertSumLaw, PutSumLaw, RemoveSumLaw}
 use Rattle.t1_charstrings.proofs.Adding.{inserted_len, put_len, raised_len, remove_len}
 use Rattle.t1_font.proofs.Lookups.{bytes_tell, numbers_tell}
@@ -97,16 +97,16 @@ same-ok : (a b : List ℕ) → ◌≡◌ {A = Result (List ℕ) Fault} (Ok a) (O
 same-ok a b e = cc
 
 -- the length of the lines that are kept is that of the private text
-pub len-of : (s : SourceParts) (c : Charstrings) (n : ℕ) → private_text (lead s) (operator s) s.items ≡ Ok (kept_text c (operator s) s.items)
-    → IsPrivateLen s n → n < 2 ^ 64 - 1 → n ≡ length (kept_text c (operator s) s.items)
+pub len-of : (s : SourceParts) (c : Charstrings) (n : ℕ) → private_text (lead s) (operator s) s.items ≡ Ok (kept_lines_text c (operator s) s.items)
+    → IsPrivateLen s n → n < 2 ^ 64 - 1 → n ≡ length (kept_lines_text c (operator s) s.items)
 len-of s c n known len small =
-    let same = ap (λ (t : List ℕ). length t) (same-ok len.0 (kept_text c (operator s) s.items) (sym len.1 ∙ known)) in
+    let same = ap (λ (t : List ℕ). length t) (same-ok len.0 (kept_lines_text c (operator s) s.items) (sym len.1 ∙ known)) in
     omega (arith, len.2, same, small)
 
-len-is : (made : SourceParts) (c : Charstrings) (o : List ℕ) (m : ℕ) → private_text (lead made) (operator made) made.items ≡ Ok (kept_text c (operator made) made.items)
-    → operator made ≡ o → m ≡ length (kept_text c o made.items) → IsPrivateLen made (min m (2 ^ 64 - 1))
+len-is : (made : SourceParts) (c : Charstrings) (o : List ℕ) (m : ℕ) → private_text (lead made) (operator made) made.items ≡ Ok (kept_lines_text c (operator made) made.items)
+    → operator made ≡ o → m ≡ length (kept_lines_text c o made.items) → IsPrivateLen made (min m (2 ^ 64 - 1))
 len-is made c o m known named m_is =
-    (kept_text c (operator made) made.items, known, ap (λ k. min k (2 ^ 64 - 1)) (m_is ∙ ap (λ name. length (kept_text c name made.items)) (sym named)))
+    (kept_lines_text c (operator made) made.items, known, ap (λ k. min k (2 ^ 64 - 1)) (m_is ∙ ap (λ name. length (kept_lines_text c name made.items)) (sym named)))
 
 pub put_sum : PutSumLaw
 put_sum key entry s made old new edited at item within on also made_is n m len small sum =
@@ -117,7 +117,7 @@ put_sum key entry s made old new edited at item within on also made_is n m len s
     ∙ ap named (find-put reads_strings s.items at item within (no-reader key (item_at s.items at) on) (no-reader key item also)) in
     let was = len-of s old n (kept_text_is s old edited.well edited.kept) len small in
     let more = put_len s key at item edited.well within on old new entry edited.sets (operator s) in
-    let now = ap (λ is. length (kept_text new (operator s) is)) items_are in
+    let now = ap (λ is. length (kept_lines_text new (operator s) is)) items_are in
     len-is made new (operator s) m (kept_text_is made new edited.well_made edited.kept_made) name (omega (arith, was, more, now, sum))
 
 pub remove_sum : RemoveSumLaw
@@ -128,7 +128,7 @@ remove_sum key entry s made old new edited at within on made_is n m len small su
     ap operator_among items_are ∙ ap named (find-removed reads_strings s.items at within (no-reader key (item_at s.items at) on)) in
     let was = len-of s old n (kept_text_is s old edited.well edited.kept) len small in
     let less = remove_len s key at edited.well within on old new entry edited.sets (operator s) in
-    let now = ap (λ is. length (kept_text new (operator s) is)) items_are in
+    let now = ap (λ is. length (kept_lines_text new (operator s) is)) items_are in
     len-is made new (operator s) m (kept_text_is made new edited.well_made edited.kept_made) name (omega (arith, was, less, now, sum))
 
 pub insert_sum : InsertSumLaw
@@ -142,6 +142,6 @@ insert_sum key entry s made old new edited at item within none also made_is n m 
     let more = inserted_len s key at item within none old new entry edited.sets (operator s) in
     let up = raised_len more-items new (operator s) in
     let others = ap (λ (t : List ℕ). length t) (sections-inserted s.items at item within (no-section key item also)) in
-    let now = ap (λ is. length (kept_text new (operator s) is)) items_are in
+    let now = ap (λ is. length (kept_lines_text new (operator s) is)) items_are in
     let sections = ap (λ is. length (section_lines_text is)) items_are in
     len-is made new (operator s) m (kept_text_is made new edited.well_made edited.kept_made) name (omega (arith, was, more, up, others, now, sections, sum))

@@ -16,12 +16,12 @@ use Rattle.t1_charstrings.specs.declared.edited.Gone.{Gone}
 use Rattle.t1_charstrings.specs.declared.edited.Gone.TheVariants as gone
 use Rattle.t1_charstrings.specs.declared.entries.Charstrings.{Charstrings}
 use Rattle.t1_charstrings.specs.Entries.{KeptCharstring, encrypted}
-use Rattle.t1_charstrings.specs.Kept.{AreEncrypted, kept_at}
+use Rattle.t1_charstrings.specs.Kept.{AreEncrypted, charstring_at}
 use Rattle.t1_charstrings.specs.Lines.{kept_entry_line}
 
 -- word: what fresh charstrings keep at a key, or else what the old ones do
 abbrev pub fresh_over : Charstrings → Charstrings → Key → Option KeptCharstring
-fresh_over fresh old k = option_or (kept_at fresh k) (kept_at old k)
+fresh_over fresh old k = option_or (charstring_at fresh k) (charstring_at old k)
 
 -- Type 1 Font Format, Chapter 2: the line of an item of the private part, by what is kept at each key
 abbrev pub item_line_by : (Key → Option KeptCharstring) → List ℕ → Item → List ℕ
@@ -36,8 +36,8 @@ text_by at operator items = flat_map (item_line_by at operator) items
 
 -- word: whether the charstring of an item's entry is kept
 abbrev pub has_line : Charstrings → Item → Bool
-has_line c (items.Subr number words closing) = is_some (kept_at c (Subr number))
-has_line c (items.Glyph name words closing) = is_some (kept_at c (Glyph name))
+has_line c (items.Subr number words closing) = is_some (charstring_at c (Subr number))
+has_line c (items.Glyph name words closing) = is_some (charstring_at c (Glyph name))
 has_line c item = false
 
 -- ---- edits
@@ -57,7 +57,7 @@ IsBatchOf keys s made c = IsEditOf keys s made c × (lead made ≡ lead s)
 -- word: the bodies that a source has at these keys are kept, encrypted with so many leading bytes, and nothing else
 abbrev pub AreFresh : ℕ → List Key → SourceParts → Charstrings → Type 0
 AreFresh front keys made fresh =
-    (k : Key) → kept_at fresh k ≡ (if list_any (key_eq k) keys then option_map (encrypted front k) (body_at (bodies made.items) k) else None)
+    (k : Key) → charstring_at fresh k ≡ (if list_any (key_eq k) keys then option_map (encrypted front k) (body_at (bodies made.items) k) else None)
 
 -- word: the key of an entry that is gone
 abbrev pub gone_key : Gone → Key

@@ -16,13 +16,13 @@ pub record KeptCharstring : Type 0 where
   pub charstring : List ℕ
 
 -- Type 1 Font Format, Chapter 2: what the line of an entry begins with
-abbrev pub head_of : Key → List ℕ
-head_of (Subr n) = codes "dup " ++ decimal n
-head_of (Glyph g) = slash ∷ g
+abbrev pub entry_head : Key → List ℕ
+entry_head (Subr n) = codes "dup " ++ decimal n
+entry_head (Glyph g) = slash ∷ g
 
 -- Type 1 Font Format, Chapter 7: a body, encrypted with so many leading bytes
 abbrev pub encrypted : ℕ → Key → List Command → KeptCharstring
-encrypted lead key body = record { head = head_of key; charstring = encrypted_charstring lead (charstring body) }
+encrypted lead key body = record { head = entry_head key; charstring = encrypted_charstring lead (charstring body) }
 
 -- word: what is kept under a number
 abbrev pub subr_charstring : List (ℕ × KeptCharstring) → ℕ → Option KeptCharstring

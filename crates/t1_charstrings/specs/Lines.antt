@@ -23,8 +23,8 @@ kept_line c operator (Subr number words closing) = kept_entry_line operator clos
 kept_line c operator (Glyph name words closing) = kept_entry_line operator closing (glyph_charstring c.glyphs.entries name)
 
 -- word: the lines of the items, one after another
-abbrev pub kept_text : Charstrings → List ℕ → List Item → List ℕ
-kept_text c operator items = flat_map (kept_line c operator) items
+abbrev pub kept_lines_text : Charstrings → List ℕ → List Item → List ℕ
+kept_lines_text c operator items = flat_map (kept_line c operator) items
 
 -- word: the bytes of a line that is ready to be written
 abbrev pub kept_line_text : KeptLine → List ℕ

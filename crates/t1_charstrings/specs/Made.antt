@@ -25,9 +25,9 @@ abbrev pub made_after : Change → SourceParts → SourceParts
 made_after change s = (changed change s []).0
 
 -- word, edits: the source that is edited
-abbrev pub source_of : Made → SourceParts
-source_of (made.Edit source change) = source.now
-source_of (made.Batch source made) = source.now
+abbrev pub source_before_edits : Made → SourceParts
+source_before_edits (made.Edit source change) = source.now
+source_before_edits (made.Batch source made) = source.now
 
 -- word, edits: the source that the edits make
 abbrev pub made_of : Made → SourceParts

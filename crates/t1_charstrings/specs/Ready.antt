@@ -13,7 +13,7 @@ use Rattle.t1_charstrings.specs.declared.settling.ReadyCharstrings.TheVariants a
 use Rattle.t1_charstrings.specs.declared.settling.ReadyLines.{ReadyLines}
 use Rattle.t1_charstrings.specs.Batch.{is_gone, item_line_by, fresh_over}
 use Rattle.t1_charstrings.specs.Changed.{AreSameCharstrings}
-use Rattle.t1_charstrings.specs.Kept.{AreEncrypted, kept_at}
+use Rattle.t1_charstrings.specs.Kept.{AreEncrypted, charstring_at}
 use Rattle.t1_font.specs.Lengths.{IsPrivateLen}
 use Rattle.t1_charstrings.specs.Lines.{kept_line}
 use Rattle.t1_charstrings.specs.Raising.{raised_text}
@@ -22,7 +22,7 @@ use Rattle.t1_charstrings.specs.Sums.{item_at, section_lines_text}
 -- word: the charstrings before and after what is ready was put in its place
 abbrev pub SettlesTo : ReadyCharstrings → Charstrings → Charstrings → Type 0
 SettlesTo (ready.Edited entries) old new =
-    (k : Key) → kept_at new k ≡ option_or (kept_at entries.fresh k) (if is_gone entries.gone.items k then None else kept_at old k)
+    (k : Key) → charstring_at new k ≡ option_or (charstring_at entries.fresh k) (if is_gone entries.gone.items k then None else charstring_at old k)
 SettlesTo (ready.All charstrings) old new = AreSameCharstrings charstrings new
 
 -- word: there is room for the charstrings that are to be put in

@@ -16,7 +16,7 @@ use Rattle.t1_charstrings.specs.Changed.{Sets}
 use Rattle.t1_charstrings.specs.Entries.{KeptCharstring}
 use Rattle.t1_charstrings.specs.Kept.{AreEncrypted}
 use Rattle.t1_font.specs.Lengths.{IsPrivateLen}
-use Rattle.t1_charstrings.specs.Lines.{kept_line, kept_text}
+use Rattle.t1_charstrings.specs.Lines.{kept_line, kept_lines_text}
 
 -- word: whether an item is the entry of this key
 abbrev pub has_key : Key → Item → Bool
@@ -42,28 +42,28 @@ abbrev pub PutLenLaw : Type 0
 PutLenLaw =
     (s : SourceParts) (key : Key) (at : ℕ) (item : Item) → IsWellFormed s → at < length s.items → has_key key (item_at s.items at) ≡ true
     → (old new : Charstrings) (entry : Option KeptCharstring) → Sets key entry old new → (operator : List ℕ)
-    → length (kept_text new operator (slice_set s.items at item)) + length (kept_line old operator (item_at s.items at))
-    ≡ length (kept_text old operator s.items) + length (kept_line new operator item)
+    → length (kept_lines_text new operator (slice_set s.items at item)) + length (kept_line old operator (item_at s.items at))
+    ≡ length (kept_lines_text old operator s.items) + length (kept_line new operator item)
 
 -- word: the length with an entry more, whose key no other has: its line's length more
 abbrev pub InsertLenLaw : Type 0
 InsertLenLaw =
     (s : SourceParts) (key : Key) (at : ℕ) (item : Item) → at ≤ length s.items → list_any (has_key key) s.items ≡ false
     → (old new : Charstrings) (entry : Option KeptCharstring) → Sets key entry old new → (operator : List ℕ)
-    → length (kept_text new operator (insert s.items at item)) ≡ length (kept_text old operator s.items) + length (kept_line new operator item)
+    → length (kept_lines_text new operator (insert s.items at item)) ≡ length (kept_lines_text old operator s.items) + length (kept_line new operator item)
 
 -- word: the length without the entry of the key: that of its line less
 abbrev pub RemoveLenLaw : Type 0
 RemoveLenLaw =
     (s : SourceParts) (key : Key) (at : ℕ) → IsWellFormed s → at < length s.items → has_key key (item_at s.items at) ≡ true
     → (old new : Charstrings) (entry : Option KeptCharstring) → Sets key entry old new → (operator : List ℕ)
-    → length (kept_text new operator (remove s.items at)) + length (kept_line old operator (item_at s.items at)) ≡ length (kept_text old operator s.items)
+    → length (kept_lines_text new operator (remove s.items at)) + length (kept_line old operator (item_at s.items at)) ≡ length (kept_lines_text old operator s.items)
 
 -- word: raised counts change the section lines alone
 abbrev pub RaisedLenLaw : Type 0
 RaisedLenLaw =
     (items : List Item) (c : Charstrings) (operator : List ℕ)
-    → length (kept_text c operator (raised items)) + length (section_lines_text items) ≡ length (kept_text c operator items) + length (section_lines_text (raised items))
+    → length (kept_lines_text c operator (raised items)) + length (section_lines_text items) ≡ length (kept_lines_text c operator items) + length (section_lines_text (raised items))
 
 -- ---- of a source that was edited
 

@@ -10,7 +10,7 @@ ghost use Rattle.t1_run.specs.Run.{Key, Subr, Glyph, body_at};
 ghost use Rattle.t1_font.specs.Bodies.{bodies, bodies_check, body_check, glyph_in, subr_in};
 ghost use Rattle.t1_font.specs.Bodies.{words_check};
 ghost use Rattle.t1_charstrings.specs.Entries.{encrypted, glyph_charstring, subr_charstring};
-ghost use Rattle.t1_charstrings.specs.Kept.{kept_at, AreEncrypted};
+ghost use Rattle.t1_charstrings.specs.Kept.{charstring_at, AreEncrypted};
 
 use crate::entries::{Charstrings, Entry, no_charstrings};
 use indexmap::IndexMap;
@@ -146,8 +146,8 @@ pub(crate) fn add_items(
     ensures checked { Gives (λ x. x) result (bodies_check items.now) }
     ensures kept { OnOk result
         ((k : Key)
-        → kept_at charstrings.new k
-        ≡ option_or (kept_at charstrings.old k)
+        → charstring_at charstrings.new k
+        ≡ option_or (charstring_at charstrings.old k)
         (option_map (encrypted lead k) (body_at (bodies items.now) k))) }
 {
     for item in items.again().alone() {

@@ -31,7 +31,7 @@ impl Model for Entry {
 
 ghost use Rattle.std.specs.Prelude.{◌≡◌, ◌++◌, None, IfOk};
 ghost use Rattle.t1_run.specs.Run.{Key};
-ghost use Rattle.t1_charstrings.specs.Kept.{kept_at};
+ghost use Rattle.t1_charstrings.specs.Kept.{charstring_at};
 
 impl Entry {
     /// An entry of its two parts, of which the first is this word and a key.
@@ -76,7 +76,7 @@ pub struct Charstrings {
 
 /// No charstrings.
 pub fn no_charstrings(alloc: Global) -> Charstrings
-    ensures { (k : Key) → kept_at result k ≡ None }
+    ensures { (k : Key) → charstring_at result k ≡ None }
 {
     Charstrings {
         subrs: IndexMap::new(alloc),

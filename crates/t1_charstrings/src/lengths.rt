@@ -8,7 +8,7 @@ ghost use Rattle.t1_source.specs.WellFormed.{IsWellFormed};
 ghost use Rattle.t1_font.specs.Assembly.{length_check};
 ghost use Rattle.t1_charstrings.specs.Kept.{AreEncrypted};
 ghost use Rattle.t1_font.specs.Lengths.{IsPrivateLen};
-ghost use Rattle.t1_charstrings.specs.Lines.{kept_entry_line, kept_line, kept_text};
+ghost use Rattle.t1_charstrings.specs.Lines.{kept_entry_line, kept_line, kept_lines_text};
 ghost use Rattle.t1_charstrings.specs.Sums.{section_line, section_lines_text};
 
 use crate::entries::{Charstrings, Entry};
@@ -102,7 +102,7 @@ pub(crate) fn line_ref_len(charstrings: &Charstrings, operator: &[u8], item: &It
 /// How long the lines of the items are, up to 2^64 - 1.
 fn items_len(charstrings: &Charstrings, operator: &[u8], items: &Items) -> usize
     ensures { result
-        ≡ min (length (kept_text charstrings.now operator.now items.now)) (2 ^ 64 - 1) }
+        ≡ min (length (kept_lines_text charstrings.now operator.now items.now)) (2 ^ 64 - 1) }
 {
     let mut total: usize = 0;
     for item in items.iter() {

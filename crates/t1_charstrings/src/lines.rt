@@ -5,7 +5,8 @@ ghost use Rattle.t1_frac.specs.Ascii.{line_feed};
 ghost use Rattle.t1_code.specs.Parts.{piece_text};
 ghost use Rattle.t1_parts.specs.ItemRefs.{item_of};
 ghost use Rattle.t1_charstrings.specs.Entries.{glyph_charstring};
-ghost use Rattle.t1_charstrings.specs.Lines.{kept_entry_line, kept_line, kept_text, kept_line_text};
+ghost use Rattle.t1_charstrings.specs.Lines.{kept_entry_line, kept_line, kept_lines_text};
+ghost use Rattle.t1_charstrings.specs.Lines.{kept_line_text};
 
 use crate::entries::{Charstrings, Entry};
 use indexmap::IndexMap;
@@ -140,7 +141,7 @@ pub(crate) fn lines_of<'a>(
     ensures { IfOk result
         (λ lines.
         flat_map kept_line_text lines.items
-        ≡ kept_text charstrings.now operator.now items.now) }
+        ≡ kept_lines_text charstrings.now operator.now items.now) }
 {
     let mut lines = Vec::with_capacity(alloc, items.len())?;
     let mut place = 0;

@@ -8,8 +8,8 @@ ghost use Rattle.t1_parts.specs.LenIV.{lead_among, says_lead};
 ghost use Rattle.t1_parts.specs.Operator.{operator_among, reads_strings};
 ghost use Rattle.t1_run.specs.Run.{Key};
 ghost use Rattle.t1_font.specs.Bodies.{bodies, bodies_check};
-ghost use Rattle.t1_charstrings.specs.Kept.{kept_at, Encrypt};
-ghost use Rattle.t1_charstrings.specs.Lines.{kept_text};
+ghost use Rattle.t1_charstrings.specs.Kept.{charstring_at, Encrypt};
+ghost use Rattle.t1_charstrings.specs.Lines.{kept_lines_text};
 ghost use Rattle.t1_charstrings.specs.Made.{made_items};
 ghost use Rattle.t1_charstrings.specs.Raising.{raised_check};
 
@@ -176,7 +176,7 @@ impl<'e, 'a> MadeItems<'e, 'a> {
     /// Adds the charstrings of the items, encrypted with so many leading bytes, to none; or answers
     /// the first fault of a body, at its entry.
     fn add_to(&self, alloc: Global, lead: u8, charstrings: &mut Charstrings) -> Result<(), Refusal>
-        requires { (k : Key) → kept_at charstrings.old k ≡ None }
+        requires { (k : Key) → charstring_at charstrings.old k ≡ None }
         ensures checked { Gives (λ x. x) result (bodies_check (made_items self.now)) }
         ensures kept { OnOk result (Encrypt lead (bodies (made_items self.now)) charstrings.new) }
     {
@@ -204,7 +204,7 @@ impl<'e, 'a> MadeItems<'e, 'a> {
         ensures { result
             ≡ min
             (length
-            (kept_text charstrings.now (operator_among (made_items self.now))
+            (kept_lines_text charstrings.now (operator_among (made_items self.now))
             (map (raised_item needed.now.subrs needed.now.glyphs)
             (made_items self.now)))) (2 ^ 64 - 1) }
     {

@@ -8,7 +8,7 @@ ghost use Rattle.t1_charstrings.specs.declared.settling.ReadyCharstrings.TheVari
 ghost use Rattle.t1_charstrings.specs.Batch.{AreEdits};
 ghost use Rattle.t1_charstrings.specs.Changed.{AreSameCharstrings};
 ghost use Rattle.t1_charstrings.specs.Made.{is_entry_changed, made_after, made_of, may_set_lead};
-ghost use Rattle.t1_charstrings.specs.Made.{source_of, IsPreparedByEdits, IsPreparedFor};
+ghost use Rattle.t1_charstrings.specs.Made.{source_before_edits, IsPreparedByEdits, IsPreparedFor};
 ghost use Rattle.t1_charstrings.specs.Ready.{IsReadyLines};
 
 use crate::anew::prepare_anew;
@@ -80,7 +80,8 @@ fn len_after(
 ) -> Result<usize, Fault>
     requires prepared { IsPreparedByEdits made.now private_len }
     requires lead { may_set_lead made.now ≡ false }
-    requires edits { AreEdits (source_of made.now) (made_of made.now) charstrings.now entries.now }
+    requires edits { AreEdits (source_before_edits made.now) (made_of made.now) charstrings.now
+        entries.now }
     ensures judged { MatchResult result (λ _. file_check (made_of made.now) ≡ Ok tt)
         (λ fault. file_check (made_of made.now) ≡ Err fault) }
     ensures len { IfOk result (IsPrivateLen (made_of made.now)) }
@@ -106,7 +107,8 @@ pub fn prepare_lines(
     entries: EditedEntries,
 ) -> Result<ReadyLines, Refusal>
     requires prepared { IsPreparedByEdits made.now private_len }
-    requires edits { AreEdits (source_of made.now) (made_of made.now) charstrings.old entries }
+    requires edits { AreEdits (source_before_edits made.now) (made_of made.now) charstrings.old
+        entries }
     ensures same { AreSameCharstrings charstrings.old charstrings.new }
     ensures judged { Gives (λ _. tt) result (file_check (made_of made.now)) }
     ensures ready { IfOk result (IsReadyLines (made_of made.now) charstrings.new) }

@@ -4,7 +4,7 @@ ghost use Rattle.std.specs.Prelude.{max, min};
 ghost use Rattle.t1_text.specs.Tokens.{last_is, tokens};
 ghost use Rattle.t1_parts.specs.Counts.{glyphs_needed, raised_item, subrs_needed};
 ghost use Rattle.t1_parts.specs.ItemRefs.{item_of};
-ghost use Rattle.t1_charstrings.specs.Lines.{kept_line, kept_text};
+ghost use Rattle.t1_charstrings.specs.Lines.{kept_line, kept_lines_text};
 ghost use Rattle.t1_charstrings.specs.Raising.{is_raised_counted, raised_check, raised_text};
 ghost use Rattle.t1_charstrings.specs.Sums.{section_line};
 
@@ -153,7 +153,7 @@ pub(crate) fn raised_items_len(
     ensures { result
         ≡ min
         (length
-        (kept_text charstrings.now operator.now
+        (kept_lines_text charstrings.now operator.now
         (map (raised_item needed.now.subrs needed.now.glyphs) items.now)))
         (2 ^ 64 - 1) }
 {

@@ -8,7 +8,8 @@ use Rattle.t1_code.specs.declared.parts.OutError.TheVariants as out
 use Rattle.t1_code.specs.Counted.{Outlet, Passes, Stops}
 use Rattle.t1_code.specs.Parts.{PassesFile, length_of}
 use Rattle.t1_code.proofs.Writing.{passing, Written, Written-from, Written-step, Written-fails, Written-all}
-use Rattle.t1_commands.specs.AnswerTexts.{data_head, data_of, data_text}
+use Rattle.t1_commands.specs.AnswerTexts.{data_text}
+use Rattle.t1_commands.specs.AnswerParts.{data_head, data_of}
 
 -- what stands around a file
 data-parts : (bytes : List ℕ) → data_text bytes ≡ data_head (length bytes) ++ (bytes ++ 10 ∷ [])

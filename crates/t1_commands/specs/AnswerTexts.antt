@@ -1,10 +1,9 @@
 -- What commands are answered.
-use Rattle.std.specs.Prelude.{ℕ, List, [], ◌∷◌, ◌++◌, Result, Ok, codes, decimal, length}
+use Rattle.std.specs.Prelude.{ℕ, List, [], ◌∷◌, ◌++◌, codes, decimal, length}
 use Rattle.t1_frac.specs.Ascii.{line_feed}
 use Rattle.t1_frac.specs.declared.fault.Code.{Code}
 use Rattle.t1_frac.specs.declared.fault.Code.TheVariants.{F1, F2, F3, F4, F5, F6, F7, F8, F9, F10, F11, F12, F13, F20, F21, F22, F23, F30, F31, F32, F33, F34, F35, F36, F37, F38, F39, F40, F41, F42, F43, F44, F45, F46, F47, F48}
 use Rattle.t1_frac.specs.declared.fault.Fault.{Fault}
-use Rattle.t1_frac.specs.Outcome.{◌>>=◌}
 use Rattle.t1_frac.specs.declared.fault.Place.{Place}
 use Rattle.t1_frac.specs.declared.fault.Place.TheVariants.{Nowhere, Line, Subr, Glyph}
 use Rattle.t1_source.specs.declared.edit.Rule.{Rule}
@@ -73,28 +72,13 @@ place_text (Line n) = codes " line " ++ decimal n
 place_text (Subr n) = codes " subr " ++ decimal n
 place_text (Glyph name) = codes " glyph " ++ name
 
--- word, answers: the number that stands in a place
-abbrev pub place_number : Place → ℕ
-place_number Nowhere = 0
-place_number (Line n) = n
-place_number (Subr n) = n
-place_number (Glyph name) = 0
-
 -- profile, answers: a fault by its code and place
 unfoldable pub fault_text : Fault → List ℕ
 fault_text fault = code_name fault.code ++ place_text fault.place
 
--- word, answers: the line that says how many bytes follow
-abbrev pub data_head : ℕ → List ℕ
-data_head len = codes "data " ++ decimal len ++ line_feed ∷ []
-
 -- profile, answers: what a print or a query shows, after its length
 abbrev pub data_text : List ℕ → List ℕ
 data_text bytes = codes "data " ++ decimal (length bytes) ++ line_feed ∷ bytes ++ line_feed ∷ []
-
--- word, answers: a file as data
-abbrev pub data_of : Result (List ℕ) Fault → Result (List ℕ) Fault
-data_of file = file >>= λ bytes. Ok (data_text bytes)
 
 -- profile, answers: the bytes of an answer
 unfoldable pub answer_text : Answer → List ℕ

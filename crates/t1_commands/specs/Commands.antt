@@ -1,5 +1,5 @@
 -- The commands that the lines of a session spell.
-use Rattle.std.specs.Prelude.{unwrap_or, ℕ, ℤ, pos, ◌-◌, ◌^◌, Bool, true, false, ◌&&◌, ◌||◌, if◌then◌else◌, List, [], ◌∷◌, ◌++◌, Option, Some, None, Result, Ok, Err, ◌≡◌, codes}
+use Rattle.std.specs.Prelude.{unwrap_or, ℕ, ℤ, pos, ◌-◌, ◌^◌, Bool, true, false, ◌&&◌, ◌||◌, if◌then◌else◌, List, [], ◌∷◌, ◌++◌, Option, Some, None, codes}
 use Rattle.std.specs.Str.{bytes_eq}
 use Rattle.t1_frac.specs.Ascii.{line_feed}
 use Rattle.t1_frac.specs.Words.{words}
@@ -15,7 +15,7 @@ use Rattle.t1_commands.specs.declared.command.Command.{Command}
 use Rattle.t1_commands.specs.declared.command.Command.TheVariants as commands
 
 -- profile, session commands: a command whose body is being read: the line that opened it, and its body so far
-pub record Opening : Type 0 where
+pub record OpenCommand : Type 0 where
   pub heading : List ℕ
   pub body : List ℕ
 
@@ -184,7 +184,7 @@ alone line = if is_wordless line then [] else line_command line ∷ []
 
 -- profile, session commands: the commands of the lines, where the body of an opened one comes first; once the input has
 -- ended, a body that it leaves open makes a command too
-abbrev pub commands_of : Bool → Option Opening → List (List ℕ) → List Command
+abbrev pub commands_of : Bool → Option OpenCommand → List (List ℕ) → List Command
 commands_of ended None [] = []
 commands_of ended (Some o) [] = if ended then open_command (words o.heading) ∷ [] else []
 commands_of ended None (line ∷ lines) =
@@ -198,30 +198,3 @@ commands_of ended (Some o) (line ∷ lines) =
 -- leaves open, until then those of the lines that have their end
 abbrev pub input_commands : Bool → List ℕ → List Command
 input_commands ended input = commands_of ended None (finished_lines ended (unified input))
-
--- word, session commands: whether a command is an edit or a query, whose names and body are kept while it is performed
-abbrev pub is_edit_or_query : Command → Bool
-is_edit_or_query (commands.Edit edit) = true
-is_edit_or_query (commands.Print print) = false
-is_edit_or_query (commands.Show show) = true
-is_edit_or_query commands.Begin = false
-is_edit_or_query commands.Commit = false
-is_edit_or_query commands.Abort = false
-is_edit_or_query (commands.Broken rule) = false
-
--- word: whether a command holds bytes of its own
-abbrev pub holds_bytes : Command → Bool
-holds_bytes (commands.Edit (RemoveSubr n)) = false
-holds_bytes (commands.Edit (Unencode code)) = false
-holds_bytes (commands.Edit (LenIv n)) = false
-holds_bytes (commands.Edit edit) = true
-holds_bytes (commands.Show (shows.Subr n)) = false
-holds_bytes (commands.Show shows.Encoding) = false
-holds_bytes (commands.Show shows.Refusal) = false
-holds_bytes (commands.Show show) = true
-holds_bytes command = false
-
--- word, session commands: a call makes this command, or wants memory for an edit or a query
-abbrev pub Makes : {E : Type 0} → Result Command E → Command → Type 0
-Makes (Ok command) wanted = command ≡ wanted
-Makes (Err e) wanted = (is_edit_or_query wanted ≡ true) × (holds_bytes wanted ≡ true)

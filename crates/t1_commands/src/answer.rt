@@ -4,7 +4,8 @@ ghost use Rattle.t1_frac.specs.Ascii.{line_feed};
 ghost use Rattle.t1_code.specs.Counted.{Writes};
 ghost use Rattle.t1_code.specs.Parts.{slices_bytes};
 ghost use Rattle.t1_commands.specs.Answering.{Answers};
-ghost use Rattle.t1_commands.specs.AnswerTexts.{rule_name, code_name, place_number, place_text};
+ghost use Rattle.t1_commands.specs.AnswerTexts.{rule_name, code_name, place_text};
+ghost use Rattle.t1_commands.specs.AnswerParts.{place_number};
 ghost use Rattle.t1_commands.specs.AnswerTexts.{fault_text, data_text, answer_text};
 
 use itoa::Buffer;

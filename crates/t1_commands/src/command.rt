@@ -7,7 +7,7 @@ ghost use Rattle.t1_commands.specs.Commands.{whole_print, blocks_print, print_of
 ghost use Rattle.t1_commands.specs.Commands.{entry_show, show_of, other_command, line_command};
 ghost use Rattle.t1_commands.specs.Commands.{body_command, bodied_edit, open_command, takes_body};
 ghost use Rattle.t1_commands.specs.Commands.{ends_body, edit_of, lone, is_wordless, number_of};
-ghost use Rattle.t1_commands.specs.Commands.{Makes};
+ghost use Rattle.t1_commands.specs.MadeCommands.{Makes};
 ghost use Rattle.t1_source.specs.declared.edit.Edit.TheVariants as edits;
 
 use crate::numbers::number_of;

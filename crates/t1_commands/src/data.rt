@@ -2,7 +2,7 @@
 ghost use Rattle.std.specs.Prelude.{◌≡◌, ◌≤◌, ◌-◌, ◌^◌, Ok};
 ghost use Rattle.t1_code.specs.Counted.{Puts, outlet};
 ghost use Rattle.t1_code.specs.Parts.{PassesFile, length_of, pieces_text};
-ghost use Rattle.t1_commands.specs.AnswerTexts.{data_of, data_head};
+ghost use Rattle.t1_commands.specs.AnswerParts.{data_of, data_head};
 
 use itoa::Buffer;
 use std::io::{self, Write};
@@ -72,7 +72,7 @@ impl PfbData {
 
 impl FileForm for PfbData {
     ghost use Rattle.t1_code.specs.Pfb.{pfb_of};
-    ghost use Rattle.t1_commands.specs.AnswerTexts.{data_of};
+    ghost use Rattle.t1_commands.specs.AnswerParts.{data_of};
 
     ghost file = { λ size clear private trailer. data_of (pfb_of size clear private trailer) };
 
@@ -93,7 +93,7 @@ pub struct PfaData;
 
 impl FileForm for PfaData {
     ghost use Rattle.t1_code.specs.Pfa.{pfa_of};
-    ghost use Rattle.t1_commands.specs.AnswerTexts.{data_of};
+    ghost use Rattle.t1_commands.specs.AnswerParts.{data_of};
 
     ghost file = { λ _ clear private trailer. data_of (pfa_of clear private trailer) };
 

@@ -16,7 +16,8 @@ use Rattle.t1_afm.specs.declared.bbox.BBox.{BBox}
 use Rattle.t1_afm.specs.Box.{drawn_box, unite as unite_boxes}
 use Rattle.t1_afm.proofs.Fonts.{box_of_both}
 use Rattle.t1_extent.specs.declared.reached.Reached.{Reached}
-use Rattle.t1_extent.specs.Parts.{found_run, part_within, parts_joined, both_parts, parts_outline}
+use Rattle.t1_extent.specs.Parts.{part_within, parts_joined, both_parts, parts_outline}
+use Rattle.t1_extent.specs.FoundRuns.{run_there}
 use Rattle.t1_extent.specs.Reached.{IsReach, GivesReached, ReportsAtOnce}
 use Rattle.t1_extent.specs.Turns.{given_in_turn, given_box}
 use Rattle.t1_extent.proofs.Turning.{both, Descends, descends, never_refused}
@@ -26,15 +27,15 @@ use Rattle.t1_extent.proofs.Turning.{both, Descends, descends, never_refused}
 abbrev pub Kept : Type 0
 Kept = List ℕ → Option (Result Drawing Code)
 
-pub drawing_found : (own : Option (Result Drawing Code)) (d : Drawing) → Ok d ≡ found_run own → Some (Ok d) ≡ own
+pub drawing_found : (own : Option (Result Drawing Code)) (d : Drawing) → Ok d ≡ run_there own → Some (Ok d) ≡ own
 drawing_found None d e = absurd (cc)
 drawing_found (Some run) d e = ap Some e
 
-fault_drawn : (part : List ℕ → Result (List Segment) Code) (own : Option (Result Drawing Code)) (code : Code) → Err code ≡ found_run own → drawn part own ≡ Err code
+fault_drawn : (part : List ℕ → Result (List Segment) Code) (own : Option (Result Drawing Code)) (code : Code) → Err code ≡ run_there own → drawn part own ≡ Err code
 fault_drawn part None code e = cc
 fault_drawn part (Some run) code e = ap (λ r. drawn part (Some r)) (sym e)
 
-pub faulty : (run : Kept) (depth : ℕ) (name : List ℕ) (code : Code) → Err code ≡ found_run (run name) → outline_within run depth name ≡ Err code
+pub faulty : (run : Kept) (depth : ℕ) (name : List ℕ) (code : Code) → Err code ≡ run_there (run name) → outline_within run depth name ≡ Err code
 faulty run zero name code e = fault_drawn (λ part. Err F46) (run name) code e
 faulty run (suc depth) name code e = fault_drawn (outline_within run depth) (run name) code e
 

@@ -1,18 +1,13 @@
 -- Outlines of composites, by those of their parts.
-use Rattle.std.specs.Prelude.{ℕ, zero, suc, List, ◌++◌, Option, Some, None, Result, Ok, Err}
+use Rattle.std.specs.Prelude.{ℕ, zero, suc, List, ◌++◌, Option, Result, Ok, Err}
 use Rattle.t1_frac.specs.Outcome.{◌>>=◌}
 use Rattle.t1_frac.specs.declared.fault.Code.{Code}
-use Rattle.t1_frac.specs.declared.fault.Code.TheVariants.{F45, F46}
+use Rattle.t1_frac.specs.declared.fault.Code.TheVariants.{F46}
 use Rattle.t1_run.specs.declared.outline.Composite.{Composite}
 use Rattle.t1_run.specs.declared.outline.Point.{Point}
 use Rattle.t1_run.specs.declared.outline.Segment.{Segment}
 use Rattle.t1_run.specs.Composite.{accent_move, moved_outline, outline_within}
 use Rattle.t1_run.specs.Run.{Drawing}
-
--- word: what a glyph's own run draws, or its first fault; a glyph that isn't there is F45
-abbrev pub found_run : Option (Result Drawing Code) → Result Drawing Code
-found_run None = Err F45
-found_run (Some run) = run
 
 -- word, limits: the outlines of the parts of a composite in which composites nest so deep; where they may not, F46
 abbrev pub part_within : (List ℕ → Option (Result Drawing Code)) → ℕ → List ℕ → Result (List Segment) Code

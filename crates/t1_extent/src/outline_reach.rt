@@ -8,7 +8,8 @@ ghost use Rattle.t1_run.specs.Composite.{HasStandardParts, outline_within};
 ghost use Rattle.t1_extent.specs.Extremes.{is_whole_point as is_whole_of};
 ghost use Rattle.t1_extent.specs.Kept.{drawing_lent, traces};
 ghost use Rattle.t1_extent.specs.Laws.{IsDistance};
-ghost use Rattle.t1_extent.specs.Parts.{found_run, part_within, parts_outline};
+ghost use Rattle.t1_extent.specs.Parts.{part_within, parts_outline};
+ghost use Rattle.t1_extent.specs.FoundRuns.{run_there};
 ghost use Rattle.t1_extent.specs.Reached.{GivesReached, ReportsAtOnce};
 ghost use Rattle.t1_extent.specs.Turns.{in_turn, through, given_in_turn, given_through};
 ghost use Rattle.t1_extent.specs.Turns.{given_moved, given_box};
@@ -27,7 +28,7 @@ use t1_run::{Composite, Point};
 /// What is kept of the run of the glyph of this name, or its first fault; F45 where there is no
 /// such glyph.
 fn found<'r, R: KeptRuns>(runs: &'r R, name: &[u8]) -> Result<&'r KeptRun, Code>
-    ensures drawn { drawing_lent result ≡ found_run (R.drawn runs.now name.now) }
+    ensures drawn { drawing_lent result ≡ run_there (R.drawn runs.now name.now) }
     ensures traced { IfOk result (λ run. traces name.now run.now ≡ true) }
 {
     match runs.run_of(name) {

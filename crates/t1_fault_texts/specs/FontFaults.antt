@@ -23,25 +23,19 @@ font_code_name D12 = codes "D12"
 font_code_name D13 = codes "D13"
 
 -- profile: whether an entry is that of a glyph, whose name stands after a slash
-abbrev pub is_glyph : List ℕ → Bool
-is_glyph [] = false
-is_glyph (byte ∷ rest) = byte == 47
+abbrev pub begins_with_slash : List ℕ → Bool
+begins_with_slash [] = false
+begins_with_slash (byte ∷ rest) = byte == 47
 
 -- profile: a glyph by its name, or a Subr by its number, which stands after 'dup '
 abbrev pub font_entry_text : List ℕ → List ℕ
-font_entry_text entry = if is_glyph entry then codes " glyph " ++ drop 1 entry else codes " subr " ++ drop 4 entry
+font_entry_text entry = if begins_with_slash entry then codes " glyph " ++ drop 1 entry else codes " subr " ++ drop 4 entry
 
 -- profile: where a fault stands, after its code
 abbrev pub font_place_text : FontPlace → List ℕ
 font_place_text Nowhere = []
 font_place_text (Byte n) = codes " byte " ++ decimal n
 font_place_text (Entry entry) = font_entry_text entry
-
--- word: the number that stands in a place
-abbrev pub font_place_number : FontPlace → ℕ
-font_place_number Nowhere = 0
-font_place_number (Byte n) = n
-font_place_number (Entry entry) = 0
 
 -- profile: a fault by its code and place
 unfoldable pub font_fault_text : FontFault → List ℕ

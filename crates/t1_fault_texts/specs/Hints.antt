@@ -48,13 +48,13 @@ question None = []
 question (Some command) = command ++ codes "?"
 
 -- profile, faults: what the word of a fault most likely means, where it has one
-abbrev pub meaning : Option (List ℕ) → List ℕ
-meaning None = []
-meaning (Some word) = question (hint_of word)
+abbrev pub likely_meaning : Option (List ℕ) → List ℕ
+likely_meaning None = []
+likely_meaning (Some word) = question (hint_of word)
 
 -- profile, faults: the same, where the word is unknown
 abbrev pub meant : Code → Option (List ℕ) → List ℕ
-meant F20 word = meaning word
+meant F20 word = likely_meaning word
 meant code word = []
 
 -- profile, faults: what is said of a fault beside its title and its word; nothing where there is nothing to say

@@ -1,5 +1,6 @@
 pub mod Finding
 pub mod FontFaults
+pub mod FontPlaces
 pub mod Hints
 pub mod Names
 pub mod Rows

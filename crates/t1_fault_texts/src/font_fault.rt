@@ -3,8 +3,9 @@ ghost use Rattle.std.specs.Prelude.{◌≡◌, ◌++◌, decimal, drop, IfOk};
 ghost use Rattle.t1_code.specs.Counted.{Writes};
 ghost use Rattle.t1_code.specs.Parts.{slices_bytes};
 ghost use Rattle.t1_fault_texts.specs.FontFaults.{font_code_name, font_entry_text};
-ghost use Rattle.t1_fault_texts.specs.FontFaults.{font_fault_text, font_place_number};
-ghost use Rattle.t1_fault_texts.specs.FontFaults.{font_place_text, is_glyph};
+ghost use Rattle.t1_fault_texts.specs.FontFaults.{font_fault_text};
+ghost use Rattle.t1_fault_texts.specs.FontPlaces.{font_place_number};
+ghost use Rattle.t1_fault_texts.specs.FontFaults.{font_place_text, begins_with_slash};
 
 use itoa::Buffer;
 use std::alloc::{AllocError, Global};
@@ -48,7 +49,7 @@ fn place_number(place: &FontPlace) -> u64
 
 /// Whether an entry is that of a glyph.
 fn is_glyph(entry: &[u8]) -> bool
-    ensures { result ≡ is_glyph entry.now }
+    ensures { result ≡ begins_with_slash entry.now }
 {
     match entry {
         [] => false,

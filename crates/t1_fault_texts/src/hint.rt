@@ -1,7 +1,7 @@
 //! What is said of a fault beside its title and its word.
 ghost use Rattle.std.specs.Prelude.{◌≡◌, ◌++◌, codes, decimal, IfOk, OnOk};
 ghost use Rattle.t1_faults.specs.Hints.{hint_of};
-ghost use Rattle.t1_fault_texts.specs.Hints.{count_text, detail_text, hint, meaning, meant};
+ghost use Rattle.t1_fault_texts.specs.Hints.{count_text, detail_text, hint, likely_meaning, meant};
 ghost use Rattle.t1_fault_texts.specs.Hints.{points_text, question, value_front, value_text};
 ghost use Rattle.t1_fault_texts.specs.Hints.{wanted_text};
 
@@ -140,7 +140,7 @@ fn push_meaning(
     text: &mut Vec<u8>,
     word: &Option<SourceText<'_>>,
 ) -> Result<(), AllocError>
-    ensures { OnOk result (text.new.items ≡ text.old.items ++ meaning word.now) }
+    ensures { OnOk result (text.new.items ≡ text.old.items ++ likely_meaning word.now) }
 {
     match word {
         Some(word) => push_question(alloc, text, word.as_slice()),

@@ -1,6 +1,6 @@
 //! Names of glyphs, one after another.
 ghost use Rattle.std.specs.Prelude.{◌≡◌, ◌++◌, flat_map, OnOk};
-ghost use Rattle.t1_fault_texts.specs.Names.{after as after_text, listed};
+ghost use Rattle.t1_fault_texts.specs.Names.{name_after as after_text, listed};
 
 use std::alloc::AllocError;
 use t1_frac::Bytes;

@@ -26,7 +26,8 @@ use Rattle.t1_font.specs.declared.glyph_metrics.GlyphMetrics.{GlyphMetrics}
 use Rattle.t1_font.specs.Assembly.{file_check}
 use Rattle.t1_font.specs.Bodies.{bodies_check}
 use Rattle.t1_font.specs.Glyphs.{glyph_names}
-use Rattle.t1_font.specs.MeasuredGlyphs.{MeasuredFont, glyph_metrics_among, glyph_metrics_at, measured}
+use Rattle.t1_font.specs.MeasuredGlyphs.{MeasuredFont, glyph_metrics_at, measured}
+use Rattle.t1_font.specs.MetricsByRuns.{glyph_metrics_among}
 use Rattle.t1_font.specs.SourceChecks.{measured_source, source_check}
 use Rattle.t1_font.specs.ToRun.{font_to_run, glyph_to_run}
 use Rattle.t1_font.proofs.Compiling.{none-there}
@@ -38,12 +39,13 @@ use Rattle.t1_font.proofs.MeasuringTurns.{runs-own}
 use Rattle.t1_chain.specs.Failing.{Failure, LeadsTo, failure_in}
 use Rattle.t1_chain.proofs.LeadingLaws.{calls_lead}
 use Rattle.t1_faults.specs.Entries.{Entry, placed_words}
-use Rattle.t1_faults.specs.Failing.{failures_in, is_faulty_subr, is_some_and, missing_subr, told}
-use Rattle.t1_faults.specs.Found.{code_of}
-use Rattle.t1_faults.specs.Met.{FailedRun, failed_runs, faults_at, last_entered, met_in, own_fault, run_fault}
+use Rattle.t1_faults.specs.Failing.{failures_in, is_faulty_subr, is_some_and, missing_subr, told_failure}
+use Rattle.t1_faults.specs.Found.{refused_code}
+use Rattle.t1_faults.specs.Met.{failed_runs, faults_at, last_entered, met_in, own_fault, run_fault}
+use Rattle.t1_chain.specs.GlyphFailures.{GlyphFailure}
 use Rattle.t1_faults.specs.Reading.{reading_fault}
 use Rattle.t1_faults.specs.Composites.{OwnRuns, composites_of, with_composites}
-use Rattle.t1_faults.specs.Judging.{checked, entries_in, entry_faults, faults_alone, faults_among, faults_of, faults_read, fault_of, file_faults, join_faults, source_faults}
+use Rattle.t1_faults.specs.Judging.{checked, entries_in, entry_faults, faults_alone, faults_among, faults_of, faults_read, first_fault_of_run, file_faults, join_faults, source_faults}
 use Rattle.t1_faults.proofs.CompositeLaws.{none_still}
 use Rattle.t1_faults.proofs.EntryLaws.{read_entries}
 use Rattle.t1_faults.proofs.FailureLaws.{runs_told}
@@ -68,7 +70,7 @@ unfolding glyph_metrics_among
 none_among run = refl
 
 abbrev AllMeasured : OwnRuns → List (List ℕ) → Type 0
-AllMeasured run names = (g : List ℕ) → list_any (bytes_eq g) names ≡ true → code_of (glyph_metrics_at run g) ≡ None
+AllMeasured run names = (g : List ℕ) → list_any (bytes_eq g) names ≡ true → refused_code (glyph_metrics_at run g) ≡ None
 
 pub among_all : (run : OwnRuns) (names : List (List ℕ)) → AllMeasured run names → (ms : List GlyphMetrics) × (glyph_metrics_among run names ≡ Ok ms)
 among_all run [] h = ([], none_among run)
@@ -78,22 +80,22 @@ among_all run (name ∷ names) h = by (among_all run names (λ g k. h g (or_seco
       let one = one-reported run [] name names s (ap (reported_at (places.Glyph name)) e) in
       (s ∷ more.0, sym (after_none (glyph_metrics_among run (name ∷ names))) ∙ sym one ∙ ap (put_after (s ∷ [])) more.1)
   by more (Err code) e =
-      let none : Some code ≡ None = ap code_of (sym e) ∙ h name (or_first (bytes_eq name name) (list_any (bytes_eq name) names) (bytes_self name)) in
+      let none : Some code ≡ None = ap refused_code (sym e) ∙ h name (or_first (bytes_eq name name) (list_any (bytes_eq name) names) (bytes_self name)) in
       absurd (cc)
 
 among_each : (run : OwnRuns) (names : List (List ℕ)) (ms : List GlyphMetrics) → glyph_metrics_among run names ≡ Ok ms → AllMeasured run names
 among_each run [] ms all g h = absurd (cc)
 among_each run (name ∷ names) ms all g h = by (λ more f k. among_each run names more f g k) (glyph_metrics_at run name) refl where
-  left : ((more : List GlyphMetrics) → glyph_metrics_among run names ≡ Ok more → list_any (bytes_eq g) names ≡ true → code_of (glyph_metrics_at run g) ≡ None) → (s : GlyphMetrics) (r : Result (List GlyphMetrics) Fault) → glyph_metrics_among run names ≡ r → put_after (s ∷ []) r ≡ Ok ms
-      → glyph_metrics_at run name ≡ Ok s → code_of (glyph_metrics_at run g) ≡ None
+  left : ((more : List GlyphMetrics) → glyph_metrics_among run names ≡ Ok more → list_any (bytes_eq g) names ≡ true → refused_code (glyph_metrics_at run g) ≡ None) → (s : GlyphMetrics) (r : Result (List GlyphMetrics) Fault) → glyph_metrics_among run names ≡ r → put_after (s ∷ []) r ≡ Ok ms
+      → glyph_metrics_at run name ≡ Ok s → refused_code (glyph_metrics_at run g) ≡ None
   left below s (Ok more) f k e =
       elim (cases_Bool (bytes_eq g name)) [
-        | inl same ↦ ap (λ x. code_of (glyph_metrics_at run x)) (bytes_same g name same) ∙ ap code_of e
+        | inl same ↦ ap (λ x. refused_code (glyph_metrics_at run x)) (bytes_same g name same) ∙ ap refused_code e
         | inr other ↦ below more f (rw other at h)
       ]
   left below s (Err fault) f k e = absurd (cc)
 
-  by : ((more : List GlyphMetrics) → glyph_metrics_among run names ≡ Ok more → list_any (bytes_eq g) names ≡ true → code_of (glyph_metrics_at run g) ≡ None) → (r : Result GlyphMetrics Code) → glyph_metrics_at run name ≡ r → code_of (glyph_metrics_at run g) ≡ None
+  by : ((more : List GlyphMetrics) → glyph_metrics_among run names ≡ Ok more → list_any (bytes_eq g) names ≡ true → refused_code (glyph_metrics_at run g) ≡ None) → (r : Result GlyphMetrics Code) → glyph_metrics_at run name ≡ r → refused_code (glyph_metrics_at run g) ≡ None
   by below (Ok s) e =
       let one = one-reported run [] name names s (ap (reported_at (places.Glyph name)) e) in
       left below s (glyph_metrics_among run names) refl (one ∙ ap (put_after []) all) e
@@ -104,13 +106,13 @@ among_each run (name ∷ names) ms all g h = by (λ more f k. among_each run nam
       absurd (cc)
 
 -- one glyph, measured
-pub one_measured : (run : OwnRuns) (name : List ℕ) (ms : List GlyphMetrics) → glyph_metrics_among run (name ∷ []) ≡ Ok ms → ◌≡◌ {A = Option Code} None (code_of (glyph_metrics_at run name))
+pub one_measured : (run : OwnRuns) (name : List ℕ) (ms : List GlyphMetrics) → glyph_metrics_among run (name ∷ []) ≡ Ok ms → ◌≡◌ {A = Option Code} None (refused_code (glyph_metrics_at run name))
 one_measured run name ms e = sym (among_each run (name ∷ []) ms e name (or_first (bytes_eq name name) false (bytes_self name)))
 
 pub one_refusal : (run : OwnRuns) (name : List ℕ) (r : Refusal) (fault : Fault) → r ≡ refusals.Fault fault → Refuses r (glyph_metrics_among run (name ∷ []))
-    → ◌≡◌ {A = Option Code} (Some fault.code) (code_of (glyph_metrics_at run name))
+    → ◌≡◌ {A = Option Code} (Some fault.code) (refused_code (glyph_metrics_at run name))
 one_refusal run name r fault is h = by (subst (λ x. Refuses x (glyph_metrics_among run (name ∷ []))) is h) (glyph_metrics_at run name) refl where
-  by : glyph_metrics_among run (name ∷ []) ≡ Err fault → (m : Result GlyphMetrics Code) → glyph_metrics_at run name ≡ m → ◌≡◌ {A = Option Code} (Some fault.code) (code_of (glyph_metrics_at run name))
+  by : glyph_metrics_among run (name ∷ []) ≡ Err fault → (m : Result GlyphMetrics Code) → glyph_metrics_at run name ≡ m → ◌≡◌ {A = Option Code} (Some fault.code) (refused_code (glyph_metrics_at run name))
   by all (Ok s) e =
       let one = one-reported run [] name [] s (ap (reported_at (places.Glyph name)) e) in
       let none : ◌≡◌ {A = Result (List GlyphMetrics) Fault} (Ok (s ∷ [])) (Err fault) = sym (ap (put_after (s ∷ [])) (none_among run)) ∙ one ∙ ap (put_after []) all in
@@ -120,7 +122,7 @@ one_refusal run name r fault is h = by (subst (λ x. Refuses x (glyph_metrics_am
       one-refused run [] name [] (refusals.Fault (fault_at (places.Glyph name) code)) (ap (reported_at (places.Glyph name)) e) in
       let both : ◌≡◌ {A = Result (List GlyphMetrics) Fault} (Err (fault_at (places.Glyph name) code)) (Err fault) = sym refused ∙ ap (put_after []) all in
       let same : fault_at (places.Glyph name) code ≡ fault = cc in
-      ap (λ (f : Fault). Some f.code) (sym same) ∙ sym (ap code_of e)
+      ap (λ (f : Fault). Some f.code) (sym same) ∙ sym (ap refused_code e)
 
 fits : (bodies file : Result (Unit {0}) Fault) → bodies ≡ Ok tt → file_faults bodies file ≡ [] → file ≡ Ok tt
 fits (Ok u) (Ok v) e h = refl
@@ -133,14 +135,14 @@ no_file_fault (Ok u) (Err fault) e = absurd (cc)
 no_file_fault (Err first) file e = refl
 
 -- what has no run has no fault of one
-pub absent : (items : List Item) (g : List ℕ) → list_any (bytes_eq g) (glyph_names items) ≡ false → fault_of (own (font_to_run items) g) ≡ None
-absent items g h = ap fault_of (own-none (font_to_run items) g (none-there (glyph_to_run items g) (sym (names-known items g) ∙ h)))
+pub absent : (items : List Item) (g : List ℕ) → list_any (bytes_eq g) (glyph_names items) ≡ false → first_fault_of_run (own (font_to_run items) g) ≡ None
+absent items g h = ap first_fault_of_run (own-none (font_to_run items) g (none-there (glyph_to_run items g) (sym (names-known items g) ∙ h)))
 
 passes_check : (s : SourceParts) (font : MeasuredFont) → file_check s ≡ Ok tt → measured s.items ≡ Ok font → source_check s ≡ Ok tt
 unfolding measured_source
 passes_check s font file glyphs = rw (file, glyphs) refl
 
-same_told : (faulty : ℕ → Bool) (o : Option Failure) (f : Failure) → option_and_then (told faulty) o ≡ Some f → o ≡ Some f
+same_told : (faulty : ℕ → Bool) (o : Option Failure) (f : Failure) → option_and_then (told_failure faulty) o ≡ Some f → o ≡ Some f
 same_told faulty None f e = absurd (cc)
 same_told faulty (Some x) f e = by (is_some_and faulty (missing_subr x)) e where
   by : (b : Bool) → cond b None (Some x) ≡ Some f → Some x ≡ Some f
@@ -150,13 +152,13 @@ same_told faulty (Some x) f e = by (is_some_and faulty (missing_subr x)) e where
 -- the calls of a failure that is told lead to its word
 pub leads : (items : List Item) (g : List ℕ) (f : Failure) → failures_in items g ≡ Some f → (count : ℕ) × LeadsTo (font_to_run items) count f.calls f.word
 leads items g f e = by (glyph_to_run items g) e where
-  by : (body : Option (List Command)) → option_and_then (told (λ n. list_any (is_faulty_subr n) items)) (option_and_then (failure_in (font_to_run items)) body) ≡ Some f
+  by : (body : Option (List Command)) → option_and_then (told_failure (λ n. list_any (is_faulty_subr n) items)) (option_and_then (failure_in (font_to_run items)) body) ≡ Some f
       → (count : ℕ) × LeadsTo (font_to_run items) count f.calls f.word
   by None h = absurd (cc)
   by (Some body) h = (length body, calls_lead (font_to_run items) body f (same_told (λ n. list_any (is_faulty_subr n) items) (failure_in (font_to_run items) body) f h))
 
 -- nothing was met in an entry
-abbrev MetNothing : List FailedRun → Entry → Type 0
+abbrev MetNothing : List GlyphFailure → Entry → Type 0
 MetNothing failed e = met_in (own_fault failed) (faults_at failed) e.place (length (placed_words e)) ≡ []
 
 -- where nothing was met in any entry, no glyph's run fails
@@ -194,7 +196,7 @@ found_none_of s es are none =
     let first = both_none (flat_map (entry_faults (own_fault failed) (faults_at failed)) es) (file_faults (bodies_check s.items) (file_check s) ++ flat_map (join_faults run) es) none in
     let second = both_none (file_faults (bodies_check s.items) (file_check s)) (flat_map (join_faults run) es) first.1 in
     let sound = items_sound (own_fault failed) (faults_at failed) s.items es are first.0 in
-    let fine : (g : List ℕ) → fault_of (run g) ≡ None = λ g. elim (cases_Bool (list_any (bytes_eq g) (glyph_names s.items))) [
+    let fine : (g : List ℕ) → first_fault_of_run (run g) ≡ None = λ g. elim (cases_Bool (list_any (bytes_eq g) (glyph_names s.items))) [
       | inl there ↦ runs_told s.items sound.0 g ∙ ap (option_map (λ (f : Failure). f.code)) (never_fails s.items es are sound.1 g there)
       | inr not_there ↦ absent s.items g not_there
     ] in
@@ -232,12 +234,12 @@ all_measured items font bodies glyphs = by (glyph_metrics_among (own (font_to_ru
       let none : ◌≡◌ {A = Result MeasuredFont Fault} (Ok font) (Err fault) = sym glyphs ∙ refused in
       absurd (cc)
 
-run_passes : (run : OwnRuns) (g : List ℕ) → code_of (glyph_metrics_at run g) ≡ None → fault_of (run g) ≡ None
+run_passes : (run : OwnRuns) (g : List ℕ) → refused_code (glyph_metrics_at run g) ≡ None → first_fault_of_run (run g) ≡ None
 run_passes run g h = by (run g) refl where
-  by : (r : Option (Result Drawing Code)) → run g ≡ r → fault_of (run g) ≡ None
-  by None e = ap fault_of e
-  by (Some (Ok d)) e = ap fault_of e
-  by (Some (Err code)) e = let some : Some code ≡ None = ap code_of (sym (faulty-metrics run g code e)) ∙ h in absurd (cc)
+  by : (r : Option (Result Drawing Code)) → run g ≡ r → first_fault_of_run (run g) ≡ None
+  by None e = ap first_fault_of_run e
+  by (Some (Ok d)) e = ap first_fault_of_run e
+  by (Some (Err code)) e = let some : Some code ≡ None = ap refused_code (sym (faulty-metrics run g code e)) ∙ h in absurd (cc)
 
 never_told : (o : Option Failure) → option_map (λ (f : Failure). f.code) o ≡ None → o ≡ None
 never_told None e = refl
@@ -253,7 +255,7 @@ none_alone s es are passed =
     let whole : file_check s ≡ Ok tt = file.1 in
     let bodies = bodies_pass s whole in
     let each = all_measured s.items font.0 bodies file.2 in
-    let fine : (g : List ℕ) → fault_of (run g) ≡ None = λ g. elim (cases_Bool (list_any (bytes_eq g) (glyph_names s.items))) [
+    let fine : (g : List ℕ) → first_fault_of_run (run g) ≡ None = λ g. elim (cases_Bool (list_any (bytes_eq g) (glyph_names s.items))) [
       | inl there ↦ run_passes run g (each g there)
       | inr not_there ↦ absent s.items g not_there
     ] in

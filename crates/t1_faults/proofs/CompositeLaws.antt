@@ -17,9 +17,10 @@ use Rattle.t1_font.proofs.Compiling.{or-assoc, or-none}
 use Rattle.t1_font.proofs.Lookups.{numbers_tell}
 use Rattle.t1_faults.specs.declared.call_chains.CallChain.{CallChain}
 use Rattle.t1_faults.specs.declared.found.FoundFault.{FoundFault}
-use Rattle.t1_faults.specs.Composites.{OwnRuns, composite_in, composites_of, each_with, faulty_of_run, faulty_under, faulty_within, found_of_parts, is_chain_of, is_first_naming, names_glyph, with_composites, with_names}
+use Rattle.t1_faults.specs.Composites.{OwnRuns, composites_of, each_with, faulty_of_run, faulty_under, faulty_within, found_of_parts, is_chain_of, is_first_naming, names_glyph, with_composites, with_names}
+use Rattle.t1_chain.specs.GlyphFailures.{parts_found}
 use Rattle.t1_faults.specs.GlyphRuns.{composites_on, each_numbered, first_naming, has_number, names_kept}
-use Rattle.t1_faults.specs.Telling.{IsAnswered, IsMet, IsTold, TellsWord}
+use Rattle.t1_faults.specs.Telling.{IsAccountedFor, IsMet, IsTold, TellsWord}
 use Rattle.t1_faults.proofs.KeptLaws.{same_turned}
 
 -- ---- faults with composites are the faults
@@ -39,8 +40,8 @@ either_still : (code : Code) (g : List ℕ) (composites : List FoundFault → Fo
 either_still code g composites before faults (inl h) = inl (told_still code (places.Glyph g) composites before faults h)
 either_still code g composites before faults (inr h) = inr (met_still code g composites before faults h)
 
-pub answered_still : (run : OwnRuns) (composites : List FoundFault → FoundFault → List (List ℕ)) (before : List FoundFault) (faults : List FoundFault) (fault : Fault) → IsAnswered run faults fault
-    → IsAnswered run (each_with composites before faults) fault
+pub answered_still : (run : OwnRuns) (composites : List FoundFault → FoundFault → List (List ℕ)) (before : List FoundFault) (faults : List FoundFault) (fault : Fault) → IsAccountedFor run faults fault
+    → IsAccountedFor run (each_with composites before faults) fault
 answered_still run composites before faults fault (inl h) = inl (told_still fault.code fault.place composites before faults h)
 answered_still run composites before faults fault (inr w) = inr (w.0, w.1, w.2, w.3, w.4, either_still w.2 w.1 composites before faults w.5)
 
@@ -116,7 +117,7 @@ pub found_under : (numbers : List ℕ → Option ℕ) (run : OwnRuns) (g base ac
     → mid ≡ old ++ filter_map numbers (faulty_within run 3 base) → new ≡ mid ++ filter_map numbers (faulty_within run 3 accent) → new ≡ old ++ filter_map numbers (faulty_under run g)
 found_under numbers run g base accent d c old mid new there parts b a first second =
     let whole : faulty_under run g ≡ faulty_within run 3 c.base ++ faulty_within run 3 c.accent =
-    ap (λ r. found_of_parts (faulty_within run 3) (composite_in r)) there ∙ ap (found_of_parts (faulty_within run 3)) parts in
+    ap (λ r. found_of_parts (faulty_within run 3) (parts_found r)) there ∙ ap (found_of_parts (faulty_within run 3)) parts in
     both_added numbers (faulty_within run 3) base accent c old mid new b a first second ∙ ap (λ t. old ++ filter_map numbers t) (sym whole)
 
 -- ---- the composites by the numbers of faults

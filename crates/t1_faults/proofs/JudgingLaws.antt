@@ -10,9 +10,10 @@ use Rattle.t1_faults.specs.declared.run_fault.RunFault.{RunFault}
 use Rattle.t1_faults.specs.Entries.{Entry}
 use Rattle.t1_faults.specs.Composites.{OwnRuns}
 use Rattle.t1_faults.specs.Judging.{entry_faults, faults_by, file_faults, join_faults}
-use Rattle.t1_faults.specs.Met.{FailedRun, faults_at, own_fault}
+use Rattle.t1_faults.specs.Met.{faults_at, own_fault}
+use Rattle.t1_chain.specs.GlyphFailures.{GlyphFailure}
 
-pub found_by : (run : OwnRuns) (failed : List FailedRun) (in_glyph : List ℕ → Option RunFault) (in_subr : ℕ → ℕ → List RunFault) (s : SourceParts) (es : List Entry) (none first second third : List FoundFault)
+pub found_by : (run : OwnRuns) (failed : List GlyphFailure) (in_glyph : List ℕ → Option RunFault) (in_subr : ℕ → ℕ → List RunFault) (s : SourceParts) (es : List Entry) (none first second third : List FoundFault)
     → ((g : List ℕ) → in_glyph g ≡ own_fault failed g) → ((n k : ℕ) → in_subr n k ≡ faults_at failed n k) → none ≡ []
     → first ≡ none ++ flat_map (entry_faults in_glyph in_subr) es → second ≡ first ++ file_faults (bodies_check s.items) (file_check s) → third ≡ second ++ flat_map (join_faults run) es
     → third ≡ faults_by failed run s es

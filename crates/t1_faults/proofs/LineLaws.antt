@@ -24,7 +24,7 @@ use Rattle.t1_parts.specs.Private.{item_in_front, items_after, items_of, private
 use Rattle.t1_parts.specs.Reading.{reads, reads_lines, unnumbered, whole_check}
 use Rattle.t1_parts.specs.Sections.{is_glyphs_line}
 use Rattle.t1_parts.specs.SourceParts.{SourceParts}
-use Rattle.t1_faults.specs.Reading.{on_line, placed_reading}
+use Rattle.t1_faults.specs.Reading.{fault_on_line, placed_reading}
 use Rattle.t1_faults.specs.Telling.{TellsWord}
 use Rattle.t1_faults.proofs.PlacedLaws.{all_append}
 
@@ -263,7 +263,7 @@ reading_in bytes = source_in (lines bytes)
 
 -- ---- the word
 
-line_tells : (ls : List (List ℕ)) (code : Code) (n : ℕ) → 1 ≤ n → n < 1 + length ls → TellsWord ls (on_line ls code n)
+line_tells : (ls : List (List ℕ)) (code : Code) (n : ℕ) → 1 ≤ n → n < 1 + length ls → TellsWord ls (fault_on_line ls code n)
 line_tells ls code n first last =
     let k = n - 1 in
     let inside : k < length ls = omega (arith, first, last) in

@@ -29,8 +29,9 @@ use Rattle.t1_faults.specs.declared.call_chains.CallChain.{CallChain}
 use Rattle.t1_faults.specs.declared.run_fault.RunFault.{RunFault}
 use Rattle.t1_faults.specs.Entries.{Entry, placed_words}
 use Rattle.t1_faults.specs.Failing.{Failures}
-use Rattle.t1_faults.specs.Met.{FailedRun, chain_of, failed_run, failed_runs, fails_at, fails_in_glyph, faults_at, faults_by_code, first_by_code, have_one_code, last_entered, met_in, own_fault, run_fault, shared_fault}
-use Rattle.t1_faults.specs.Openings.{is_number}
+use Rattle.t1_faults.specs.Met.{chain_of, failed_run, failed_runs, fails_at_word, fails_in_glyph, faults_at, faults_by_code, first_by_code, have_one_code, last_entered, met_in, own_fault, run_fault, shared_fault}
+use Rattle.t1_chain.specs.GlyphFailures.{GlyphFailure}
+use Rattle.t1_faults.specs.Openings.{is_this_number}
 use Rattle.t1_faults.specs.Telling.{HasChain}
 use Rattle.t1_faults.proofs.SoundLaws.{long_as}
 use Rattle.t1_faults.proofs.TakenLaws.{AreOf}
@@ -131,11 +132,11 @@ last_there m count (call ∷ calls) word n h e = last_word m count call calls wo
 -- ---- the runs that fail
 
 -- the run is one of these
-abbrev pub HasRun : FailedRun → List FailedRun → Type 0
+abbrev pub HasRun : GlyphFailure → List GlyphFailure → Type 0
 HasRun r [] = ⊥
 HasRun r (x ∷ xs) = (x ≡ r) ⊎ HasRun r xs
 
-abbrev pub run_of : List ℕ → Failure → FailedRun
+abbrev pub run_of : List ℕ → Failure → GlyphFailure
 run_of g f = record { glyph = g; failure = f }
 
 fails_by : (F : Failures) (g : List ℕ) (f : Failure) (place : Place) → place ≡ places.Glyph g → F g ≡ Some f → failed_run F place ≡ Some (run_of g f)
@@ -146,12 +147,12 @@ pub run_there : (F : Failures) (g : List ℕ) (f : Failure) → F g ≡ Some f �
 run_there F g f fails [] h = absurd h
 run_there F g f fails (e ∷ es) (inl here) = subst (λ o. HasRun (run_of g f) (cons_option o (failed_runs F es))) (sym (fails_by F g f e.place here fails)) (inl refl)
 run_there F g f fails (e ∷ es) (inr later) = by (failed_run F e.place) (run_there F g f fails es later) where
-  by : (o : Option FailedRun) → HasRun (run_of g f) (failed_runs F es) → HasRun (run_of g f) (cons_option o (failed_runs F es))
+  by : (o : Option GlyphFailure) → HasRun (run_of g f) (failed_runs F es) → HasRun (run_of g f) (cons_option o (failed_runs F es))
   by None h = h
   by (Some x) h = inr h
 
 -- each has the failure of its glyph
-abbrev FailsSo : Failures → FailedRun → Type 0
+abbrev FailsSo : Failures → GlyphFailure → Type 0
 FailsSo F r = F r.glyph ≡ Some r.failure
 
 each_fails : (F : Failures) (es : List Entry) → AllByRecursion (FailsSo F) (failed_runs F es)
@@ -173,12 +174,12 @@ first_true : (a b : Bool) → (a && b) ≡ true → a ≡ true
 first_true true b h = refl
 first_true false b h = h
 
-found_one : (test : FailedRun → Bool) (P : FailedRun → Type 0) (r : FailedRun) → test r ≡ true → (xs : List FailedRun) → AllByRecursion P xs → HasRun r xs
-    → (x : FailedRun) × (find test xs ≡ Some x) × (test x ≡ true) × P x
+found_one : (test : GlyphFailure → Bool) (P : GlyphFailure → Type 0) (r : GlyphFailure) → test r ≡ true → (xs : List GlyphFailure) → AllByRecursion P xs → HasRun r xs
+    → (x : GlyphFailure) × (find test xs ≡ Some x) × (test x ≡ true) × P x
 found_one test P r t [] all h = absurd h
 found_one test P r t (x ∷ xs) all h = by (λ k. found_one test P r t xs all.1 k) (test x) refl h where
-  by : (HasRun r xs → (y : FailedRun) × (find test xs ≡ Some y) × (test y ≡ true) × P y) → (b : Bool) → test x ≡ b → HasRun r (x ∷ xs)
-      → (y : FailedRun) × (cond b (Some x) (find test xs) ≡ Some y) × (test y ≡ true) × P y
+  by : (HasRun r xs → (y : GlyphFailure) × (find test xs ≡ Some y) × (test y ≡ true) × P y) → (b : Bool) → test x ≡ b → HasRun r (x ∷ xs)
+      → (y : GlyphFailure) × (cond b (Some x) (find test xs) ≡ Some y) × (test y ≡ true) × P y
   by below true e k = (x, refl, e, all.0)
   by below false e (inl same) = let never : true ≡ false = sym t ∙ ap test (sym same) ∙ e in absurd (cc)
   by below false e (inr later) = below later
@@ -193,7 +194,7 @@ own_met F g f es fails last there =
     let x = found_one (fails_in_glyph g) (FailsSo F) (run_of g f) (fails_there g f last) (failed_runs F es) (each_fails F es) (run_there F g f fails es there) in
     let glyph : g ≡ x.0.glyph = bytes_same g x.0.glyph (first_true (bytes_eq g x.0.glyph) (is_none (last_entered x.0.failure.calls)) x.2) in
     let same : Some x.0.failure ≡ Some f = sym x.3 ∙ ap F (sym glyph) ∙ fails in
-    ap (option_map (λ (run : FailedRun). run_fault [] run.failure)) x.1 ∙ ap (option_map (run_fault [])) same
+    ap (option_map (λ (run : GlyphFailure). run_fault [] run.failure)) x.1 ∙ ap (option_map (run_fault [])) same
 
 -- ---- in a Subr
 
@@ -202,12 +203,12 @@ abbrev pub HasMet : Code → List ℕ → List RunFault → Type 0
 HasMet code g [] = ⊥
 HasMet code g (f ∷ fs) = ((f.code ≡ code) × HasChain g f.chains) ⊎ HasMet code g fs
 
-chain_there : (r : FailedRun) (xs : List FailedRun) → HasRun r xs → HasChain r.glyph (map chain_of xs)
+chain_there : (r : GlyphFailure) (xs : List GlyphFailure) → HasRun r xs → HasChain r.glyph (map chain_of xs)
 chain_there r [] h = absurd h
-chain_there r (x ∷ xs) (inl same) = inl (ap (λ (y : FailedRun). y.glyph) same)
+chain_there r (x ∷ xs) (inl same) = inl (ap (λ (y : GlyphFailure). y.glyph) same)
 chain_there r (x ∷ xs) (inr later) = inr (chain_there r xs later)
 
-still_there : (test : FailedRun → Bool) (r : FailedRun) → test r ≡ true → (xs : List FailedRun) → HasRun r xs → HasRun r (filter test xs)
+still_there : (test : GlyphFailure → Bool) (r : GlyphFailure) → test r ≡ true → (xs : List GlyphFailure) → HasRun r xs → HasRun r (filter test xs)
 still_there test r t [] h = absurd h
 still_there test r t (x ∷ xs) h = by (λ k. still_there test r t xs k) (test x) refl h where
   by : (HasRun r xs → HasRun r (filter test xs)) → (b : Bool) → test x ≡ b → HasRun r (x ∷ xs) → HasRun r (cond b (x ∷ filter test xs) (filter test xs))
@@ -217,14 +218,14 @@ still_there test r t (x ∷ xs) h = by (λ k. still_there test r t xs k) (test x
   by below false e (inr later) = below later
 
 -- one of the runs fails by this code
-abbrev HasCode : Code → List FailedRun → Type 0
+abbrev HasCode : Code → List GlyphFailure → Type 0
 HasCode code [] = ⊥
 HasCode code (x ∷ xs) = (x.failure.code ≡ code) ⊎ HasCode code xs
 
-pub one_code : (r x : FailedRun) → have_one_code r x ≡ true → r.failure.code ≡ x.failure.code
+pub one_code : (r x : GlyphFailure) → have_one_code r x ≡ true → r.failure.code ≡ x.failure.code
 one_code r x h = same_true the_type (search rules) r.failure.code x.failure.code h
 
-among_others : (code : Code) (r : FailedRun) (xs : List FailedRun) → HasCode code xs → HasCode code (r ∷ filter (λ x. not (have_one_code r x)) xs)
+among_others : (code : Code) (r : GlyphFailure) (xs : List GlyphFailure) → HasCode code xs → HasCode code (r ∷ filter (λ x. not (have_one_code r x)) xs)
 among_others code r [] h = absurd h
 among_others code r (x ∷ xs) h = by (λ k. among_others code r xs k) (have_one_code r x) refl h where
   by : (HasCode code xs → HasCode code (r ∷ filter (λ y. not (have_one_code r y)) xs)) → (b : Bool) → have_one_code r x ≡ b → HasCode code (x ∷ xs)
@@ -237,27 +238,27 @@ among_others code r (x ∷ xs) h = by (λ k. among_others code r xs k) (have_one
     | inr more ↦ inr (inr more)
   ]
 
-code_there : (r : FailedRun) (xs : List FailedRun) → HasRun r xs → HasCode r.failure.code (first_by_code xs)
+code_there : (r : GlyphFailure) (xs : List GlyphFailure) → HasRun r xs → HasCode r.failure.code (first_by_code xs)
 code_there r [] h = absurd h
-code_there r (x ∷ xs) (inl same) = inl (ap (λ (y : FailedRun). y.failure.code) same)
+code_there r (x ∷ xs) (inl same) = inl (ap (λ (y : GlyphFailure). y.failure.code) same)
 code_there r (x ∷ xs) (inr later) = among_others r.failure.code x (first_by_code xs) (code_there r xs later)
 
-shared_there : (r : FailedRun) (all : List FailedRun) → HasRun r all → (xs : List FailedRun) → HasCode r.failure.code xs → HasMet r.failure.code r.glyph (map (shared_fault all) xs)
+shared_there : (r : GlyphFailure) (all : List GlyphFailure) → HasRun r all → (xs : List GlyphFailure) → HasCode r.failure.code xs → HasMet r.failure.code r.glyph (map (shared_fault all) xs)
 shared_there r all there [] h = absurd h
 shared_there r all there (x ∷ xs) (inl is) =
     inl (is, chain_there r (filter (have_one_code x) all) (still_there (have_one_code x) r (true_same the_type x.failure.code r.failure.code is) all there))
 shared_there r all there (x ∷ xs) (inr later) = inr (shared_there r all there xs later)
 
-fails_in : (n : ℕ) (r : FailedRun) → last_entered r.failure.calls ≡ Some n → fails_at n r.failure.word r ≡ true
+fails_in : (n : ℕ) (r : GlyphFailure) → last_entered r.failure.calls ≡ Some n → fails_at_word n r.failure.word r ≡ true
 fails_in n r last =
     let w = r.failure.word in
-    ap (λ (o : Option ℕ). is_number n o && nat_eq w w) last ∙ ap (λ b. b && nat_eq w w) (numbers_tell.itself n) ∙ numbers_tell.itself w
+    ap (λ (o : Option ℕ). is_this_number n o && nat_eq w w) last ∙ ap (λ b. b && nat_eq w w) (numbers_tell.itself n) ∙ numbers_tell.itself w
 
 -- the fault that a run met in a Subr is among those met there, with its chain
-pub met_there : (r : FailedRun) (n : ℕ) (runs : List FailedRun) → HasRun r runs → last_entered r.failure.calls ≡ Some n → HasMet r.failure.code r.glyph (faults_at runs n r.failure.word)
+pub met_there : (r : GlyphFailure) (n : ℕ) (runs : List GlyphFailure) → HasRun r runs → last_entered r.failure.calls ≡ Some n → HasMet r.failure.code r.glyph (faults_at runs n r.failure.word)
 met_there r n runs there last =
-    let here = filter (fails_at n r.failure.word) runs in
-    let kept = still_there (fails_at n r.failure.word) r (fails_in n r last) runs there in
+    let here = filter (fails_at_word n r.failure.word) runs in
+    let kept = still_there (fails_at_word n r.failure.word) r (fails_in n r last) runs there in
     shared_there r here kept (first_by_code here) (code_there r here kept)
 
 met_left : (code : Code) (g : List ℕ) (xs ys : List RunFault) → HasMet code g xs → HasMet code g (xs ++ ys)

@@ -24,9 +24,9 @@ use Rattle.t1_faults.specs.declared.found.FoundFault.{FoundFault}
 use Rattle.t1_faults.specs.declared.placed.PlacedWord.{PlacedWord}
 use Rattle.t1_faults.specs.declared.run_fault.RunFault.{RunFault}
 use Rattle.t1_faults.specs.Entries.{Entry, placed_words}
-use Rattle.t1_faults.specs.Found.{at_entry, at_word, body_faults, code_of, in_entry, length_faults, met_faults, word_faults}
+use Rattle.t1_faults.specs.Found.{at_entry, at_word, body_faults, refused_code, in_entry, length_faults, met_faults, word_faults}
 use Rattle.t1_faults.specs.Composites.{OwnRuns}
-use Rattle.t1_faults.specs.Judging.{entry_faults, fault_of, join_fault, join_faults, or_else, run_faults, sound_parts, sound_run, sound_within}
+use Rattle.t1_faults.specs.Judging.{entry_faults, first_fault_of_run, join_fault, join_faults, or_else, run_faults, sound_parts, sound_run, sound_within}
 use Rattle.t1_faults.specs.Met.{met_in}
 use Rattle.t1_faults.proofs.TakenLaws.{AreOf}
 
@@ -185,17 +185,17 @@ both_sound : (part : List ℕ → Bool) → ((p : List ℕ) → part p ≡ true)
 both_sound part all None = refl
 both_sound part all (Some c) = rw (all c.base, all c.accent) refl
 
-one_sound : (part : List ℕ → Bool) → ((p : List ℕ) → part p ≡ true) → (r : Option (Result Drawing Code)) → fault_of r ≡ None → sound_run part r ≡ true
+one_sound : (part : List ℕ → Bool) → ((p : List ℕ) → part p ≡ true) → (r : Option (Result Drawing Code)) → first_fault_of_run r ≡ None → sound_run part r ≡ true
 one_sound part all None e = refl
 one_sound part all (Some (Err code)) e = absurd (cc)
 one_sound part all (Some (Ok d)) e = both_sound part all d.composite
 
-all_sound : (run : OwnRuns) → ((g : List ℕ) → fault_of (run g) ≡ None) → (depth : ℕ) (g : List ℕ) → sound_within run depth g ≡ true
+all_sound : (run : OwnRuns) → ((g : List ℕ) → first_fault_of_run (run g) ≡ None) → (depth : ℕ) (g : List ℕ) → sound_within run depth g ≡ true
 all_sound run fine zero g = one_sound (λ part. true) (λ p. refl) (run g) (fine g)
 all_sound run fine (suc depth) g = one_sound (sound_within run depth) (all_sound run fine depth) (run g) (fine g)
 
-pub joins_sound : (run : OwnRuns) (items : List Item) (es : List Entry) → AreOf items es → ((g : List ℕ) → fault_of (run g) ≡ None) → flat_map (join_faults run) es ≡ []
-    → (g : List ℕ) → list_any (bytes_eq g) (glyph_names items) ≡ true → code_of (glyph_metrics_at run g) ≡ None
+pub joins_sound : (run : OwnRuns) (items : List Item) (es : List Entry) → AreOf items es → ((g : List ℕ) → first_fault_of_run (run g) ≡ None) → flat_map (join_faults run) es ≡ []
+    → (g : List ℕ) → list_any (bytes_eq g) (glyph_names items) ≡ true → refused_code (glyph_metrics_at run g) ≡ None
 joins_sound run [] es are fine none g h = absurd (cc)
 joins_sound run (Plain l ∷ items) es are fine none g h = joins_sound run items es are fine none g h
 joins_sound run (Section before n after ∷ items) es are fine none g h = joins_sound run items es are fine none g h
@@ -206,16 +206,16 @@ joins_sound run (Glyph name words closing ∷ items) [] are fine none g h = absu
 joins_sound run (Glyph name words closing ∷ items) (e ∷ es) are fine none g h =
     let parts = both_none (join_faults run e) (flat_map (join_faults run) es) none in
     let listed : join_fault run e.place ≡ None = none_listed (at_entry e) (join_fault run e.place) parts.0 in
-    let judged : cond (sound_within run 4 name) (code_of (glyph_metrics_at run name)) None ≡ None = ap (join_fault run) (sym are.0) ∙ listed in
-    let here : code_of (glyph_metrics_at run name) ≡ None =
-    sym (ap (λ b. cond b (code_of (glyph_metrics_at run name)) None) (all_sound run fine 4 name)) ∙ judged in
+    let judged : cond (sound_within run 4 name) (refused_code (glyph_metrics_at run name)) None ≡ None = ap (join_fault run) (sym are.0) ∙ listed in
+    let here : refused_code (glyph_metrics_at run name) ≡ None =
+    sym (ap (λ b. cond b (refused_code (glyph_metrics_at run name)) None) (all_sound run fine 4 name)) ∙ judged in
     elim (cases_Bool (bytes_eq g name)) [
-      | inl same ↦ subst (λ x. code_of (glyph_metrics_at run x) ≡ None) (sym (bytes_same g name same)) here
+      | inl same ↦ subst (λ x. refused_code (glyph_metrics_at run x) ≡ None) (sym (bytes_same g name same)) here
       | inr other ↦ joins_sound run items es are.2 fine parts.1 g (rw other at h)
     ]
 
 pub joins_fine : (run : OwnRuns) (items : List Item) (es : List Entry) → AreOf items es
-    → ((g : List ℕ) → list_any (bytes_eq g) (glyph_names items) ≡ true → code_of (glyph_metrics_at run g) ≡ None) → flat_map (join_faults run) es ≡ []
+    → ((g : List ℕ) → list_any (bytes_eq g) (glyph_names items) ≡ true → refused_code (glyph_metrics_at run g) ≡ None) → flat_map (join_faults run) es ≡ []
 joins_fine run [] [] are fine = refl
 joins_fine run [] (e ∷ es) are fine = absurd are
 joins_fine run (Plain l ∷ items) es are fine = joins_fine run items es are fine
@@ -228,7 +228,7 @@ joins_fine run (Glyph name words closing ∷ items) [] are fine = absurd are
 joins_fine run (Glyph name words closing ∷ items) (e ∷ es) are fine =
     let here = fine name (or_first (bytes_eq name name) (list_any (bytes_eq name) (glyph_names items)) (bytes_self name)) in
     none_joined (join_faults run e) (flat_map (join_faults run) es)
-    (nothing_listed (at_entry e) (join_fault run e.place) (ap (join_fault run) are.0 ∙ either (sound_within run 4 name) (code_of (glyph_metrics_at run name)) here))
+    (nothing_listed (at_entry e) (join_fault run e.place) (ap (join_fault run) are.0 ∙ either (sound_within run 4 name) (refused_code (glyph_metrics_at run name)) here))
     (joins_fine run items es are.2 (λ g h. fine g (or_second (bytes_eq g name) (list_any (bytes_eq g) (glyph_names items)) h)))
   where
     either : (b : Bool) (x : Option Code) → x ≡ None → cond b x None ≡ None

@@ -18,7 +18,8 @@ use Rattle.t1_font.specs.Glyphs.{glyph_names}
 use Rattle.t1_font.specs.ToRun.{font_to_run}
 use Rattle.t1_faults.specs.declared.call_chains.CallChain.{CallChain}
 use Rattle.t1_faults.specs.declared.found.FoundFault.{FoundFault}
-use Rattle.t1_faults.specs.Composites.{OwnRuns, composite_in, composites_of, each_with, faulty_of_run, faulty_under, faulty_within, found_of_parts, is_chain_of, is_entry_of, is_first_naming, names_glyph, with_composites}
+use Rattle.t1_faults.specs.Composites.{OwnRuns, composites_of, each_with, faulty_of_run, faulty_under, faulty_within, found_of_parts, is_chain_of, is_entry_of, is_first_naming, names_glyph, with_composites}
+use Rattle.t1_chain.specs.GlyphFailures.{parts_found}
 use Rattle.t1_faults.specs.Judging.{entries_in, faults_alone, faults_read, source_faults}
 use Rattle.t1_faults.specs.Reading.{placed_reading, reading_fault}
 use Rattle.t1_faults.specs.Telling.{HasChain, IsMet, IsNamed, IsTold, StandsOn, TellsComposites, runs_read}
@@ -86,7 +87,7 @@ under_within test run (suc depth) g h = by (λ part k. under_within test run dep
 
 under_composite : (test : List ℕ → Bool) (run : OwnRuns) (g : List ℕ) → list_any test (faulty_under run g) ≡ true → Under test run 4 g
 under_composite test run g h = by (run g) refl h where
-  by : (r : Option (Result Drawing Code)) → run g ≡ r → list_any test (found_of_parts (faulty_within run 3) (composite_in r)) ≡ true → Under test run 4 g
+  by : (r : Option (Result Drawing Code)) → run g ≡ r → list_any test (found_of_parts (faulty_within run 3) (parts_found r)) ≡ true → Under test run 4 g
   by None e k = absurd (cc)
   by (Some (Err code)) e k = absurd (cc)
   by (Some (Ok d)) e k = under_parts test run 3 g d d.composite (λ part. under_within test run 3 part) e refl k
@@ -217,7 +218,7 @@ pub named_on : (run : OwnRuns) (glyphs : List (List ℕ)) (faults : List FoundFa
 named_on run glyphs faults g p code there (inl same) fails h = named_still g (composites_of run glyphs) [] faults (ap (λ x. list_any (names_glyph x) faults) same ∙ h)
 named_on run glyphs faults g p code there (inr w) fails h =
     let under : (test : List ℕ → Bool) → test p ≡ true → list_any test (faulty_under run g) ≡ true = λ test passes.
-    ap (λ r. list_any test (found_of_parts (faulty_within run 3) (composite_in r))) w.2
+    ap (λ r. list_any test (found_of_parts (faulty_within run 3) (parts_found r))) w.2
     ∙ ap (λ c. list_any test (found_of_parts (faulty_within run 3) c)) w.3
     ∙ parts_within test run 3 w.1 (elim w.4 [
       | inl base ↦ inl (stands_within test run 3 w.1.base p code fails passes base)

@@ -28,7 +28,8 @@ use Rattle.t1_font.specs.declared.glyph_metrics.GlyphMetrics.{GlyphMetrics}
 use Rattle.t1_font.specs.Assembly.{file_check}
 use Rattle.t1_font.specs.Bodies.{bodies_check, words_check}
 use Rattle.t1_font.specs.Glyphs.{glyph_names}
-use Rattle.t1_font.specs.MeasuredGlyphs.{MeasuredFont, glyph_metrics_among, glyph_metrics_at, measured}
+use Rattle.t1_font.specs.MeasuredGlyphs.{MeasuredFont, glyph_metrics_at, measured}
+use Rattle.t1_font.specs.MetricsByRuns.{glyph_metrics_among}
 use Rattle.t1_font.specs.SourceChecks.{measured_source, source_check}
 use Rattle.t1_font.specs.ToRun.{font_to_run}
 use Rattle.t1_font.proofs.Gathering.{put_after, one-refused, one-reported}
@@ -41,12 +42,13 @@ use Rattle.t1_faults.specs.declared.placed.PlacedWord.{PlacedWord}
 use Rattle.t1_faults.specs.declared.run_fault.RunFault.{RunFault}
 use Rattle.t1_faults.specs.Entries.{Entry, placed_words}
 use Rattle.t1_faults.specs.Failing.{failures_in}
-use Rattle.t1_faults.specs.Found.{at_entry, at_place, body_faults, code_of, in_entry, length_faults, met_faults, word_faults}
-use Rattle.t1_faults.specs.Met.{FailedRun, failed_runs, faults_at, last_entered, met_in, own_fault, run_fault}
+use Rattle.t1_faults.specs.Found.{at_entry, at_place, body_faults, refused_code, in_entry, length_faults, met_faults, word_faults}
+use Rattle.t1_faults.specs.Met.{failed_runs, faults_at, last_entered, met_in, own_fault, run_fault}
+use Rattle.t1_chain.specs.GlyphFailures.{GlyphFailure}
 use Rattle.t1_faults.specs.Composites.{OwnRuns, composites_of}
-use Rattle.t1_faults.specs.Judging.{checked, entries_in, entry_faults, fault_of, faults_alone, faults_among, faults_read, file_faults, join_fault, join_faults, or_else, run_faults, sound_parts, sound_run, sound_within, source_faults}
+use Rattle.t1_faults.specs.Judging.{checked, entries_in, entry_faults, first_fault_of_run, faults_alone, faults_among, faults_read, file_faults, join_fault, join_faults, or_else, run_faults, sound_parts, sound_run, sound_within, source_faults}
 use Rattle.t1_faults.specs.Reading.{placed_reading, reading_fault}
-use Rattle.t1_faults.specs.Telling.{HasChain, IsAnswered, IsMet, IsNamed, IsTold, StandsOn, runs_read}
+use Rattle.t1_faults.specs.Telling.{HasChain, IsAccountedFor, IsMet, IsNamed, IsTold, StandsOn, runs_read}
 use Rattle.t1_faults.proofs.CheckLaws.{absent, leads}
 use Rattle.t1_faults.proofs.CompositeLaws.{answered_still}
 use Rattle.t1_faults.proofs.EntryLaws.{read_entries}
@@ -187,11 +189,11 @@ met_told code p e ws (f ∷ fs) (inl h) =
 met_told code p e ws (f ∷ fs) (inr h) = inr (met_told code p e ws fs h)
 
 -- the faults of an entry, where these runs fail
-abbrev faults_with : List FailedRun → Entry → List FoundFault
+abbrev faults_with : List GlyphFailure → Entry → List FoundFault
 faults_with failed = entry_faults (own_fault failed) (faults_at failed)
 
 -- where the body has none, they are those that runs met
-met_listed : (failed : List FailedRun) (x : Entry) (place : Place) → body_faults x ≡ [] → x.place ≡ place
+met_listed : (failed : List GlyphFailure) (x : Entry) (place : Place) → body_faults x ≡ [] → x.place ≡ place
     → faults_with failed x ≡ met_faults x (met_in (own_fault failed) (faults_at failed) place (length (placed_words x)))
 met_listed failed x place sound stands =
     ap (λ fs. or_else fs (run_faults (own_fault failed) (faults_at failed) x)) sound
@@ -202,7 +204,7 @@ run_told : (items : List Item) (es : List Entry) (p : List ℕ) (code : Code) �
     → own (font_to_run items) p ≡ Some (Err code)
     → IsToldOf code p (flat_map (faults_with (failed_runs (failures_in items) es)) es)
 run_told items es p code are checked there fails =
-    by (failures_in items p) refl (sym (runs_told items checked p) ∙ ap fault_of fails)
+    by (failures_in items p) refl (sym (runs_told items checked p) ∙ ap first_fault_of_run fails)
   where
     found : (f : Failure) → failures_in items p ≡ Some f → f.code ≡ code → (o : Option ℕ) → last_entered f.calls ≡ o
         → IsToldOf code p (flat_map (faults_with (failed_runs (failures_in items) es)) es)
@@ -252,8 +254,8 @@ join_told run (Glyph name words closing ∷ items) (x ∷ es) g code are there s
     elim (cases_Bool (bytes_eq g name)) [
       | inl same ↦
           let equal = bytes_same g name same in
-          let judged : cond (sound_within run 4 g) (code_of (glyph_metrics_at run g)) None ≡ Some code =
-          ap (λ b. cond b (code_of (glyph_metrics_at run g)) None) sound ∙ ap code_of fails in
+          let judged : cond (sound_within run 4 g) (refused_code (glyph_metrics_at run g)) None ≡ Some code =
+          ap (λ b. cond b (refused_code (glyph_metrics_at run g)) None) sound ∙ ap refused_code fails in
           let own : join_fault run x.place ≡ Some code = ap (join_fault run) are.0 ∙ ap (λ n. join_fault run (places.Glyph n)) (sym equal) ∙ judged in
           let listed : join_faults run x ≡ at_entry x code ∷ [] = ap (λ f. option_to_list (option_map (at_entry x) f)) own in
           told_left code (places.Glyph g) (join_faults run x) (flat_map (join_faults run) es)
@@ -351,11 +353,11 @@ is_glyph_of : (items : List Item) (p : List ℕ) (code : Code) → own (font_to_
 is_glyph_of items p code e =
     elim (cases_Bool (list_any (bytes_eq p) (glyph_names items))) [
       | inl there ↦ there
-      | inr not_there ↦ let none : Some code ≡ None = sym (ap fault_of e) ∙ absent items p not_there in absurd (cc)
+      | inr not_there ↦ let none : Some code ≡ None = sym (ap first_fault_of_run e) ∙ absent items p not_there in absurd (cc)
     ]
 
 glyph_answered : (s : SourceParts) (es : List Entry) (fault : Fault) → AreOf s.items es → bodies_check s.items ≡ Ok tt → measured s.items ≡ Err fault
-    → IsAnswered (own (font_to_run s.items)) (faults_alone s es) fault
+    → IsAccountedFor (own (font_to_run s.items)) (faults_alone s es) fault
 glyph_answered s es fault are bodies e =
     let run = own (font_to_run s.items) in
     let failed = failed_runs (failures_in s.items) es in
@@ -411,21 +413,21 @@ told_or_measured s es fault are e = bodies (bodies_check s.items) refl where
       (bodies_told (own_fault failed) (faults_at failed) s.items es fault are (h ∙ ap Err same)))
 
 source_answered : (s : SourceParts) (es : List Entry) (fault : Fault) → AreOf s.items es → source_check s ≡ Err fault
-    → IsAnswered (own (font_to_run s.items)) (faults_alone s es) fault
+    → IsAccountedFor (own (font_to_run s.items)) (faults_alone s es) fault
 source_answered s es fault are e = elim (told_or_measured s es fault are e) [
   | inl told ↦ inl told
   | inr first ↦ glyph_answered s es fault are first.0 first.1
 ]
 
 -- so it is with the composites
-told_with_composites : (s : SourceParts) (es : List Entry) (fault : Fault) → IsAnswered (own (font_to_run s.items)) (faults_alone s es) fault
-    → IsAnswered (own (font_to_run s.items)) (faults_among s es) fault
+told_with_composites : (s : SourceParts) (es : List Entry) (fault : Fault) → IsAccountedFor (own (font_to_run s.items)) (faults_alone s es) fault
+    → IsAccountedFor (own (font_to_run s.items)) (faults_among s es) fault
 told_with_composites s es fault h =
     let run = own (font_to_run s.items) in
     answered_still run (composites_of run (glyph_names s.items)) [] (faults_alone s es) fault h
 
 -- what check reports of some bytes is told, or is a glyph's that stands on one of which a fault is told
-pub answered : (bytes : List ℕ) (fault : Fault) → checked bytes ≡ Err fault → IsAnswered (runs_read (reads bytes)) (source_faults bytes) fault
+pub answered : (bytes : List ℕ) (fault : Fault) → checked bytes ≡ Err fault → IsAccountedFor (runs_read (reads bytes)) (source_faults bytes) fault
 answered bytes fault e = by (reads bytes) refl where
   reading : (f : Fault) (place : Place) → f.place ≡ place → IsTold f.code place (reading_fault (lines bytes) (fault_at place f.code) ∷ [])
   reading f places.Nowhere h = inl (refl, refl)
@@ -433,15 +435,15 @@ answered bytes fault e = by (reads bytes) refl where
   reading f (places.Subr n) h = inl (refl, refl)
   reading f (places.Glyph g) h = inl (refl, refl)
 
-  by : (r : Result SourceParts Fault) → reads bytes ≡ r → IsAnswered (runs_read (reads bytes)) (source_faults bytes) fault
+  by : (r : Result SourceParts Fault) → reads bytes ≡ r → IsAccountedFor (runs_read (reads bytes)) (source_faults bytes) fault
   by (Ok s) h =
       let judged : source_check s ≡ Err fault = ap (λ r. r >>= source_check) (sym h) ∙ e in
-      subst (λ r. IsAnswered (runs_read r) (faults_read (lines bytes) r) fault) (sym h)
+      subst (λ r. IsAccountedFor (runs_read r) (faults_read (lines bytes) r) fault) (sym h)
       (told_with_composites s (entries_in (parts_of (lines bytes)) s) fault (source_answered s (entries_in (parts_of (lines bytes)) s) fault (read_entries bytes s h) judged))
   by (Err other) h =
       let first : ◌≡◌ {A = Result (Unit {0}) Fault} (Err other) (Err fault) = ap (λ r. r >>= source_check) (sym h) ∙ e in
       let same : other ≡ fault = cc in
-      subst (λ r. IsAnswered (runs_read r) (faults_read (lines bytes) r) fault) (sym (h ∙ ap Err same))
+      subst (λ r. IsAccountedFor (runs_read r) (faults_read (lines bytes) r) fault) (sym (h ∙ ap Err same))
       (inl (reading fault fault.place refl))
 
 -- ---- the glyph of the fault that check reports is named

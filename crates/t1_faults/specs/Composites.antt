@@ -7,6 +7,7 @@ use Rattle.t1_frac.specs.declared.fault.Place.{Place}
 use Rattle.t1_frac.specs.declared.fault.Place.TheVariants as places
 use Rattle.t1_run.specs.declared.outline.Composite.{Composite}
 use Rattle.t1_run.specs.Run.{Drawing}
+use Rattle.t1_chain.specs.GlyphFailures.{parts_found}
 use Rattle.t1_faults.specs.declared.call_chains.CallChain.{CallChain}
 use Rattle.t1_faults.specs.declared.found.FoundFault.{FoundFault}
 
@@ -51,15 +52,9 @@ abbrev pub faulty_within : OwnRuns → ℕ → List ℕ → List (List ℕ)
 faulty_within run zero g = faulty_of_run (λ part. []) g (run g)
 faulty_within run (suc depth) g = faulty_of_run (faulty_within run depth) g (run g)
 
--- profile, faults: the composite that a run found that has no fault
-abbrev pub composite_in : Option (Result Drawing Code) → Option Composite
-composite_in None = None
-composite_in (Some (Err code)) = None
-composite_in (Some (Ok d)) = d.composite
-
 -- Type 1 Font Format, Chapter 6 (seac): the glyphs whose own runs have faults on which a composite stands; parts may nest four deep
 abbrev pub faulty_under : OwnRuns → List ℕ → List (List ℕ)
-faulty_under run g = found_of_parts (faulty_within run 3) (composite_in (run g))
+faulty_under run g = found_of_parts (faulty_within run 3) (parts_found (run g))
 
 -- ---- the composites of each fault
 

@@ -2,14 +2,12 @@
 use Rattle.std.specs.Prelude.{ℕ, ◌+◌, Option, None, Some, List, [], ◌∷◌, ◌++◌, drop}
 use Rattle.t1_frac.specs.declared.fault.Place.{Place}
 use Rattle.t1_frac.specs.declared.fault.Place.TheVariants as places
-use Rattle.t1_text.specs.Lines.{lines}
 use Rattle.t1_parts.specs.declared.body.EntryBody.{EntryBody}
 use Rattle.t1_parts.specs.declared.item.Item.{Item}
 use Rattle.t1_parts.specs.declared.item.Item.TheVariants.{Subr, Glyph}
 use Rattle.t1_parts.specs.Entries.{opened_body}
 use Rattle.t1_faults.specs.Placed.{opened_words}
 use Rattle.t1_faults.specs.declared.placed.PlacedWord.{PlacedWord}
-use Rattle.t1_faults.specs.declared.entry_text.EntryText.{EntryText}
 
 -- profile, places: an entry where it stands: whose it is, the number of its first line, that line, and the lines after it
 pub record Entry : Type 0 where
@@ -17,10 +15,6 @@ pub record Entry : Type 0 where
   pub number : ℕ
   pub line : List ℕ
   pub later : List (List ℕ)
-
--- word, places: an entry by the bytes from which it is read
-abbrev pub entry_of : EntryText → Entry
-entry_of e = record { place = e.place; number = e.number; line = e.line.now; later = lines e.later.now }
 
 -- profile, places: the words of an entry's body where they stand
 abbrev pub placed_words : Entry → List PlacedWord

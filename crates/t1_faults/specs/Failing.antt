@@ -19,8 +19,8 @@ abbrev pub Failures : Type 0
 Failures = List ℕ → Option Failure
 
 -- profile, faults: where and why the run of a glyph's own body fails
-abbrev pub failure_at : FontBodies → Failures
-failure_at m g = option_and_then (failure_in m) (m.glyphs g)
+abbrev pub glyph_failure : FontBodies → Failures
+glyph_failure m g = option_and_then (failure_in m) (m.glyphs g)
 
 -- profile, faults: whether a code says that a Subr is missing
 abbrev pub is_missing_subr : Code → Bool
@@ -52,12 +52,12 @@ is_faulty_subr n (Subr number words closing) = n == number && is_none (result_ok
 is_faulty_subr n _ = false
 
 -- profile, faults: a Subr whose words have a fault isn't there for a run; the faults of its words are told in place of that
-abbrev pub told : (ℕ → Bool) → Failure → Option Failure
-told faulty failure = if is_some_and faulty (missing_subr failure) then None else Some failure
+abbrev pub told_failure : (ℕ → Bool) → Failure → Option Failure
+told_failure faulty failure = if is_some_and faulty (missing_subr failure) then None else Some failure
 
 -- profile, faults: the same, of those that are told
 abbrev pub told_by : (ℕ → Bool) → FontBodies → Failures
-told_by faulty m g = option_and_then (told faulty) (failure_at m g)
+told_by faulty m g = option_and_then (told_failure faulty) (glyph_failure m g)
 
 -- profile, faults: where and why the runs of the glyphs of a source fail, by its items
 abbrev pub failures_in : List Item → Failures

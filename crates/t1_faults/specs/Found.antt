@@ -13,9 +13,9 @@ use Rattle.t1_faults.specs.declared.found.FoundFault.{FoundFault}
 use Rattle.t1_faults.specs.declared.run_fault.RunFault.{RunFault}
 
 -- profile, faults: the code of what is refused
-abbrev pub code_of : {X : Type 0} → Result X Code → Option Code
-code_of (Ok x) = None
-code_of (Err code) = Some code
+abbrev pub refused_code : {X : Type 0} → Result X Code → Option Code
+refused_code (Ok x) = None
+refused_code (Err code) = Some code
 
 -- profile, faults: a fault of an entry as a whole, at the first byte of its first line that is no blank
 abbrev pub at_entry : Entry → Code → FoundFault
@@ -45,7 +45,7 @@ at_word place w code = record {
 
 -- profile, faults: the fault of a word, where it is no number and no command
 abbrev pub word_fault : Place → PlacedWord → Option FoundFault
-word_fault place w = option_map (at_word place w) (code_of (command_of_word w.word))
+word_fault place w = option_map (at_word place w) (refused_code (command_of_word w.word))
 
 -- profile, faults: every fault of some words, in their order
 abbrev pub word_faults : Place → List PlacedWord → List FoundFault

@@ -7,8 +7,8 @@ use Rattle.std.specs.declared.vec.Vec.{Vec}
 use denote.Enum.Bare.{sameb}
 use Rattle.t1_frac.specs.contracts.fault.Code.{the_type}
 use Rattle.t1_frac.specs.declared.fault.Code.{Code}
-use Rattle.t1_font.specs.Bodies.{plain_bodies}
-use Rattle.t1_chain.specs.Machine.{seen}
+use Rattle.t1_font.specs.KeptBodies.{plain_bodies}
+use Rattle.t1_chain.specs.Machine.{failure_seen}
 use Rattle.t1_faults.specs.declared.call_chains.CallChain.{CallChain}
 use Rattle.t1_faults.specs.declared.found.FoundFault.{FoundFault}
 use Rattle.t1_faults.specs.declared.failed_run.FailedRun.{FailedRun as FailedFields}
@@ -16,7 +16,7 @@ use Rattle.t1_faults.specs.declared.glyph_runs.GlyphRuns.{GlyphRuns}
 use Rattle.t1_faults.specs.declared.run_fault.RunFault.{RunFault}
 use Rattle.t1_faults.specs.Composites.{OwnRuns, faulty_under, names_glyph, with_names}
 use Rattle.t1_faults.specs.Failing.{Failures, told_by}
-use Rattle.t1_faults.specs.Met.{FailedRun}
+use Rattle.t1_chain.specs.GlyphFailures.{GlyphFailure}
 
 -- word: a number is among these
 abbrev pub has_number : List ℕ → ℕ → Bool
@@ -31,8 +31,8 @@ abbrev pub failures_of : GlyphRuns → Failures
 failures_of runs = told_by (is_faulty runs) (plain_bodies runs.bodies)
 
 -- word: a failed run as the definitions see it
-abbrev pub seen_run : FailedFields → FailedRun
-seen_run run = record { glyph = run.glyph; failure = seen run.failure }
+abbrev pub seen_run : FailedFields → GlyphFailure
+seen_run run = record { glyph = run.glyph; failure = failure_seen run.failure }
 
 -- word: the fault that is kept for a glyph's own body
 abbrev pub own_kept : {A : Type 0} → List (Vec ℕ A × RunFault) → List ℕ → Option RunFault
@@ -44,8 +44,8 @@ faults_kept None = []
 faults_kept (Some faults) = faults.items
 
 -- word: whether a fault has this code
-abbrev pub has_code : Code → RunFault → Bool
-has_code code fault = sameb the_type fault.code code
+abbrev pub has_fault_code : Code → RunFault → Bool
+has_fault_code code fault = sameb the_type fault.code code
 
 -- word: a fault with one chain more
 abbrev pub with_chain : CallChain → RunFault → RunFault
@@ -56,8 +56,8 @@ abbrev pub is_at : ℕ → ℕ → ℕ × ℕ → Bool
 is_at n word key = nat_eq n key.0 && nat_eq word key.1
 
 -- word: the faults that are kept for this word of this Subr
-abbrev pub kept_at : {A : Type 0} → List ((ℕ × ℕ) × Vec RunFault A) → ℕ → ℕ → List RunFault
-kept_at entries n word = faults_kept (lookup (is_at n word) entries)
+abbrev pub faults_kept_at : {A : Type 0} → List ((ℕ × ℕ) × Vec RunFault A) → ℕ → ℕ → List RunFault
+faults_kept_at entries n word = faults_kept (lookup (is_at n word) entries)
 
 -- word: the number that is kept for a glyph
 abbrev pub number_kept : {A : Type 0} → List (Vec ℕ A × ℕ) → List ℕ → Option ℕ

@@ -21,16 +21,17 @@ use Rattle.t1_font.specs.ToRun.{font_to_run}
 use Rattle.t1_faults.specs.Composites.{OwnRuns, with_composites}
 use Rattle.t1_faults.specs.Entries.{Entry, entries_from, placed_words}
 use Rattle.t1_faults.specs.Failing.{failures_in}
-use Rattle.t1_faults.specs.Found.{at_entry, body_faults, code_of, met_faults}
-use Rattle.t1_faults.specs.Met.{FailedRun, failed_runs, faults_at, met_in, own_fault}
+use Rattle.t1_faults.specs.Found.{at_entry, body_faults, refused_code, met_faults}
+use Rattle.t1_faults.specs.Met.{failed_runs, faults_at, met_in, own_fault}
+use Rattle.t1_chain.specs.GlyphFailures.{GlyphFailure}
 use Rattle.t1_faults.specs.Reading.{at_front, reading_fault}
 use Rattle.t1_faults.specs.declared.found.FoundFault.{FoundFault}
 use Rattle.t1_faults.specs.declared.run_fault.RunFault.{RunFault}
 
 -- profile, faults: the first fault of a run, where there is a run and it has one
-abbrev pub fault_of : Option (Result Drawing Code) → Option Code
-fault_of None = None
-fault_of (Some run) = code_of run
+abbrev pub first_fault_of_run : Option (Result Drawing Code) → Option Code
+first_fault_of_run None = None
+first_fault_of_run (Some run) = refused_code run
 
 -- profile, faults: these faults, or else others where there are none
 abbrev pub or_else : List FoundFault → List FoundFault → List FoundFault
@@ -69,7 +70,7 @@ sound_within run (suc depth) g = sound_run (sound_within run depth) (run g)
 
 -- profile, faults: the fault of a glyph's outline, where it stands on no glyph whose own run has a fault: F46, F40 or F39
 abbrev pub join_fault : OwnRuns → Place → Option Code
-join_fault run (places.Glyph g) = if sound_within run 4 g then code_of (glyph_metrics_at run g) else None
+join_fault run (places.Glyph g) = if sound_within run 4 g then refused_code (glyph_metrics_at run g) else None
 join_fault run place = None
 
 -- profile, faults: the same, at the composite
@@ -78,7 +79,7 @@ join_faults run e = option_to_list (option_map (at_entry e) (join_fault run e.pl
 
 -- profile, faults: every fault of a source by its entries and the runs of its glyphs, of which these fail: the entries' own faults,
 -- F23, and those of joins
-abbrev pub faults_by : List FailedRun → OwnRuns → SourceParts → List Entry → List FoundFault
+abbrev pub faults_by : List GlyphFailure → OwnRuns → SourceParts → List Entry → List FoundFault
 faults_by failed run s entries =
     flat_map (entry_faults (own_fault failed) (faults_at failed)) entries
     ++ (file_faults (bodies_check s.items) (file_check s) ++ flat_map (join_faults run) entries)

@@ -1,3 +1,4 @@
+pub mod CodeForms
 pub mod Composites
 pub mod Entries
 pub mod Failing

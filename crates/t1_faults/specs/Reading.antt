@@ -1,5 +1,5 @@
 -- The fault of reading a source, where it stands.
-use Rattle.std.specs.Prelude.{ℕ, ◌+◌, ◌-◌, None, Some, Option, Result, Ok, Err, List, []}
+use Rattle.std.specs.Prelude.{ℕ, ◌+◌, ◌-◌, None, Some, List, []}
 use Rattle.std.specs.List.{prefix_len, slice_index_or}
 use Rattle.t1_frac.specs.Words.{is_blank}
 use Rattle.t1_frac.specs.declared.fault.Code.{Code}
@@ -12,8 +12,8 @@ use Rattle.t1_faults.specs.Openings.{detail_on}
 use Rattle.t1_faults.specs.declared.found.FoundFault.{FoundFault}
 
 -- profile, faults: a fault on a line of this number: all of the line but the blanks at both ends
-abbrev pub on_line : List (List ℕ) → Code → ℕ → FoundFault
-on_line ls code number =
+abbrev pub fault_on_line : List (List ℕ) → Code → ℕ → FoundFault
+fault_on_line ls code number =
     let l = slice_index_or ls (number - 1) [] in
     record {
       code = code;
@@ -41,14 +41,9 @@ at_front code place = record {
 
 -- profile, faults: a fault of reading these lines, where it stands
 abbrev pub placed_reading : List (List ℕ) → Code → Place → FoundFault
-placed_reading ls code (places.Line number) = on_line ls code number
+placed_reading ls code (places.Line number) = fault_on_line ls code number
 placed_reading ls code place = at_front code place
 
 -- profile, faults: the same of a fault with its place
 abbrev pub reading_fault : List (List ℕ) → Fault → FoundFault
 reading_fault ls fault = placed_reading ls fault.code fault.place
-
--- word, faults: the fault that a check finds, where it finds one
-abbrev pub fault_in : Result (Unit {0}) Fault → Option Fault
-fault_in (Ok sound) = None
-fault_in (Err fault) = Some fault

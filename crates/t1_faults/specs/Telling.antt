@@ -39,8 +39,8 @@ IsMet code g (fault ∷ faults) = ((fault.code ≡ code) × HasChain g fault.cha
 
 -- profile, faults: a fault is told; or it is a glyph's, and that glyph is or stands on one of which a fault is told, or whose run met
 -- one in a Subr
-abbrev pub IsAnswered : OwnRuns → List FoundFault → Fault → Type 0
-IsAnswered run found fault =
+abbrev pub IsAccountedFor : OwnRuns → List FoundFault → Fault → Type 0
+IsAccountedFor run found fault =
     IsTold fault.code fault.place found
     ⊎ ((g : List ℕ) × (p : List ℕ) × (code : Code) × (fault.place ≡ places.Glyph g) × StandsOn run 4 g p × (IsTold code (places.Glyph p) found ⊎ IsMet code p found))
 

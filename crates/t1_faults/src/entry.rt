@@ -4,7 +4,8 @@ ghost use Rattle.std.specs.Prelude.{◌≡◌, ◌<◌, ◌+◌, ◌^◌, ◌++�
 ghost use Rattle.t1_text.specs.Lines.{lines};
 ghost use Rattle.t1_parts.specs.ItemRefs.{item_of};
 ghost use Rattle.t1_parts.specs.declared.item.Item.{Item as ItemOf};
-ghost use Rattle.t1_faults.specs.Entries.{entry_of, entries_from, place_in, placed_words};
+ghost use Rattle.t1_faults.specs.Entries.{entries_from, place_in, placed_words};
+ghost use Rattle.t1_faults.specs.CodeForms.{entry_in_text};
 
 use crate::entry_text::EntryText;
 use crate::placed::{PlacedWord, push_opened_words};
@@ -16,7 +17,7 @@ use t1_text::first_line;
 impl<'a> EntryText<'a> {
     /// The words of its body where they stand.
     pub fn words(&self, alloc: Global) -> Result<Vec<PlacedWord<'a>>, AllocError>
-        ensures { IfOk result (λ words. words.items ≡ placed_words (entry_of self.now)) }
+        ensures { IfOk result (λ words. words.items ≡ placed_words (entry_in_text self.now)) }
     {
         let mut words = Vec::new(alloc);
         push_opened_words(&mut words, self.number, self.line, self.later)?;
@@ -62,8 +63,8 @@ fn push_entry<'a>(
     requires fits { number + length (lines bytes.now) < 2 ^ 64 }
     ensures fits { IfOk result (λ left. left.0 + length (lines left.1.now) < 2 ^ 64) }
     ensures entries { IfOk result (λ left. (items : List ItemOf) →
-        map entry_of entries.new.items ++ entries_from left.0 (lines left.1.now) items
-        ≡ map entry_of entries.old.items
+        map entry_in_text entries.new.items ++ entries_from left.0 (lines left.1.now) items
+        ≡ map entry_in_text entries.old.items
         ++ entries_from number (lines bytes.now) (item_of item.now ∷ items)) }
 {
     let (line, later) = first_line(bytes);
@@ -93,7 +94,7 @@ pub(crate) fn entries_of<'a>(
 ) -> Result<Vec<EntryText<'a>>, AllocError>
     requires { number + length bytes.now < 2 ^ 64 }
     ensures { IfOk result (λ entries.
-        map entry_of entries.items ≡ entries_from number (lines bytes.now) items.now) }
+        map entry_in_text entries.items ≡ entries_from number (lines bytes.now) items.now) }
 {
     let mut entries = Vec::new(alloc);
     let mut first = number;

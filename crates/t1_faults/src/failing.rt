@@ -2,14 +2,14 @@
 
 ghost use Rattle.std.specs.Prelude.{◌≡◌, ◌++◌, is_some, map, option_map, IfOk, OnOk};
 ghost use Rattle.std.specs.Option.{option_to_list};
-ghost use Rattle.t1_font.specs.Bodies.{plain_bodies};
+ghost use Rattle.t1_font.specs.KeptBodies.{plain_bodies};
 ghost use Rattle.t1_font.specs.Runs.{drawing_in};
-ghost use Rattle.t1_chain.specs.Machine.{seen};
-ghost use Rattle.t1_faults.specs.Entries.{entry_of};
-ghost use Rattle.t1_faults.specs.Failing.{failure_at, is_missing_subr, missing_subr, natural};
+ghost use Rattle.t1_chain.specs.Machine.{failure_seen};
+ghost use Rattle.t1_faults.specs.CodeForms.{entry_in_text};
+ghost use Rattle.t1_faults.specs.Failing.{glyph_failure, is_missing_subr, missing_subr, natural};
 ghost use Rattle.t1_faults.specs.Failing.{is_some_and, subr_told};
 ghost use Rattle.t1_faults.specs.GlyphRuns.{failures_of, is_faulty, seen_run};
-ghost use Rattle.t1_faults.specs.Judging.{fault_of};
+ghost use Rattle.t1_faults.specs.Judging.{first_fault_of_run};
 ghost use Rattle.t1_faults.specs.Met.{failed_run, failed_runs};
 
 use crate::entry_text::EntryText;
@@ -23,7 +23,7 @@ use t1_run::StoredBodies;
 
 /// Whether the run of a glyph's own body has a fault.
 fn has_failed(runs: &Runs, name: &[u8]) -> bool
-    ensures { result ≡ is_some (fault_of (drawing_in runs.now name.now)) }
+    ensures { result ≡ is_some (first_fault_of_run (drawing_in runs.now name.now)) }
 {
     match runs.get(name) {
         Some(Err(_code)) => true,
@@ -34,7 +34,7 @@ fn has_failed(runs: &Runs, name: &[u8]) -> bool
 /// Where and why the run of a glyph's own body fails.
 fn failure_at(alloc: Global, runs: &GlyphRuns, name: &[u8]) -> Result<Option<Failure>, AllocError>
     ensures { IfOk result (λ failure.
-        option_map seen failure ≡ failure_at (plain_bodies runs.now.bodies) name.now) }
+        option_map failure_seen failure ≡ glyph_failure (plain_bodies runs.now.bodies) name.now) }
 {
     if !has_failed(&runs.runs, name) {
         return Ok(None);
@@ -74,7 +74,7 @@ fn subr_told(detail: &Detail) -> Option<u64>
 
 /// The number of the Subr that a run misses, where it fails for that.
 fn missing_subr(failure: &Failure) -> Option<u64>
-    ensures { result ≡ missing_subr (seen failure.now) }
+    ensures { result ≡ missing_subr (failure_seen failure.now) }
 {
     if !is_missing_subr(failure.code) {
         return None;
@@ -84,7 +84,7 @@ fn missing_subr(failure: &Failure) -> Option<u64>
 
 /// Whether the words of the Subr that a run misses have a fault.
 fn misses_faulty(runs: &GlyphRuns, failure: &Failure) -> bool
-    ensures { result ≡ is_some_and (is_faulty runs.now) (missing_subr (seen failure.now)) }
+    ensures { result ≡ is_some_and (is_faulty runs.now) (missing_subr (failure_seen failure.now)) }
 {
     match missing_subr(failure) {
         None => false,
@@ -95,7 +95,8 @@ fn misses_faulty(runs: &GlyphRuns, failure: &Failure) -> bool
 /// Where and why the run of a glyph's own body fails, where that is told: what a run misses since
 /// the words of a Subr have a fault is not.
 fn told_failure(alloc: Global, runs: &GlyphRuns, name: &[u8]) -> Result<Option<Failure>, AllocError>
-    ensures { IfOk result (λ failure. option_map seen failure ≡ failures_of runs.now name.now) }
+    ensures { IfOk result
+        (λ failure. option_map failure_seen failure ≡ failures_of runs.now name.now) }
 {
     let Some(failure) = failure_at(alloc, runs, name)? else {
         return Ok(None);
@@ -151,7 +152,7 @@ pub(crate) fn failed_runs(
 ) -> Result<Vec<FailedRun>, AllocError>
     ensures { IfOk result (λ failed.
         map seen_run failed.items
-        ≡ failed_runs (failures_of runs.now) (map entry_of entries.now)) }
+        ≡ failed_runs (failures_of runs.now) (map entry_in_text entries.now)) }
 {
     let mut failed = Vec::new(alloc);
     for entry in entries {

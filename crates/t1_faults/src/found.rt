@@ -4,8 +4,8 @@ ghost use Rattle.std.specs.Prelude.{◌≡◌, ◌++◌, ◌∷◌, [], All, IfO
 ghost use Rattle.std.specs.Option.{option_to_list};
 ghost use Rattle.t1_frac.specs.Words.{words};
 ghost use Rattle.t1_code.specs.Words.{command_of_word};
-ghost use Rattle.t1_faults.specs.Entries.{entry_of};
-ghost use Rattle.t1_faults.specs.Found.{at_entry, at_word, body_faults, code_of};
+ghost use Rattle.t1_faults.specs.CodeForms.{entry_in_text};
+ghost use Rattle.t1_faults.specs.Found.{at_entry, at_word, body_faults, refused_code};
 ghost use Rattle.t1_faults.specs.Found.{length_faults, word_fault, word_faults};
 
 use crate::call_chains::CallChains;
@@ -61,7 +61,7 @@ pub(crate) fn at_entry<'a>(
     entry: &EntryText,
     code: Code,
 ) -> Result<FoundFault<'a>, AllocError>
-    ensures { IfOk result (λ fault. fault ≡ at_entry (entry_of entry.now) code) }
+    ensures { IfOk result (λ fault. fault ≡ at_entry (entry_in_text entry.now) code) }
 {
     Ok(FoundFault {
         code,
@@ -99,7 +99,7 @@ pub(crate) fn at_word<'a>(
 /// The code of a word that is no number and no command. The commands are memory for its command.
 fn word_code(commands: &mut Vec<Command>, word: &[u8]) -> Result<Option<Code>, AllocError>
     requires { words word.now ≡ word.now ∷ [] }
-    ensures { IfOk result (λ code. code ≡ code_of (command_of_word word.now)) }
+    ensures { IfOk result (λ code. code ≡ refused_code (command_of_word word.now)) }
 {
     commands.clear();
     match compile_onto(commands, &Words::of(word)) {
@@ -153,7 +153,7 @@ fn push_length_fault<'a>(
     placed: &[PlacedWord<'a>],
 ) -> Result<(), AllocError>
     ensures { OnOk result (found.new.items
-        ≡ found.old.items ++ length_faults (entry_of entry.now) placed.now) }
+        ≡ found.old.items ++ length_faults (entry_in_text entry.now) placed.now) }
 {
     if placed.len() <= MAX_WORDS {
         return Ok(());
@@ -170,7 +170,7 @@ pub(crate) fn push_body_faults<'a>(
     entry: &EntryText<'a>,
 ) -> Result<(), AllocError>
     ensures { OnOk result (found.new.items
-        ≡ found.old.items ++ body_faults (entry_of entry.now)) }
+        ≡ found.old.items ++ body_faults (entry_in_text entry.now)) }
 {
     let placed = entry.words(alloc)?;
     push_length_fault(alloc, found, entry, &placed)?;

@@ -2,7 +2,7 @@
 
 ghost use Rattle.std.specs.Prelude.{◌≡◌};
 ghost use Rattle.t1_run.specs.Run.{own};
-ghost use Rattle.t1_font.specs.Bodies.{plain_bodies};
+ghost use Rattle.t1_font.specs.KeptBodies.{plain_bodies};
 ghost use Rattle.t1_font.specs.Runs.{drawing_in};
 
 use indexmap::IndexSet;

@@ -3,7 +3,7 @@
 ghost use Rattle.std.specs.Prelude.{◌≡◌, IfOk};
 ghost use Rattle.t1_font.specs.MeasuredGlyphs.{glyph_metrics_at};
 ghost use Rattle.t1_font.specs.Runs.{drawing_in};
-ghost use Rattle.t1_faults.specs.Found.{code_of};
+ghost use Rattle.t1_faults.specs.Found.{refused_code};
 ghost use Rattle.t1_faults.specs.Judging.{join_fault, sound_within};
 
 use std::alloc::{AllocError, Global};
@@ -38,7 +38,7 @@ fn is_sound(runs: &Runs, depth: u8, name: &[u8]) -> bool
 /// The first fault of what is measured of a glyph.
 fn measured_fault(alloc: Global, runs: &Runs, name: &[u8]) -> Result<Option<Code>, AllocError>
     ensures { IfOk result
-        (λ code. code ≡ code_of (glyph_metrics_at (drawing_in runs.now) name.now)) }
+        (λ code. code ≡ refused_code (glyph_metrics_at (drawing_in runs.now) name.now)) }
 {
     match glyph_metrics_of(alloc, runs, &[name]) {
         Ok(_metrics) => Ok(None),

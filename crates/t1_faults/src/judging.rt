@@ -10,12 +10,11 @@ ghost use Rattle.t1_font.specs.Bodies.{bodies_check};
 ghost use Rattle.t1_font.specs.Glyphs.{glyph_names};
 ghost use Rattle.t1_font.specs.Runs.{drawing_in};
 ghost use Rattle.t1_faults.specs.Composites.{with_composites};
-ghost use Rattle.t1_faults.specs.Entries.{entry_of};
-ghost use Rattle.t1_faults.specs.GlyphRuns.{failures_of, kept_at, own_kept};
+ghost use Rattle.t1_faults.specs.CodeForms.{entry_in_text, fault_in};
+ghost use Rattle.t1_faults.specs.GlyphRuns.{failures_of, faults_kept_at, own_kept};
 ghost use Rattle.t1_faults.specs.Judging.{entries_in, entry_faults, faults_among, faults_by};
 ghost use Rattle.t1_faults.specs.Judging.{faults_of, file_faults, join_faults, source_faults};
 ghost use Rattle.t1_faults.specs.Met.{failed_runs, faults_at, own_fault};
-ghost use Rattle.t1_faults.specs.Reading.{fault_in};
 
 use crate::composites::tell_composites;
 use crate::entry::entries_of;
@@ -42,8 +41,8 @@ fn push_entry_faults<'a>(
     entry: &EntryText<'a>,
 ) -> Result<(), AllocError>
     ensures { OnOk result (found.new.items ≡ found.old.items
-        ++ entry_faults (own_kept met.now.own.entries) (kept_at met.now.in_subrs.entries)
-        (entry_of entry.now)) }
+        ++ entry_faults (own_kept met.now.own.entries) (faults_kept_at met.now.in_subrs.entries)
+        (entry_in_text entry.now)) }
 {
     let before = found.len();
     push_body_faults(alloc, found, entry)?;
@@ -61,8 +60,8 @@ fn push_own_faults<'a>(
     entries: &[EntryText<'a>],
 ) -> Result<(), AllocError>
     ensures { OnOk result (found.new.items ≡ found.old.items ++ flat_map
-        (entry_faults (own_kept met.now.own.entries) (kept_at met.now.in_subrs.entries))
-        (map entry_of entries.now)) }
+        (entry_faults (own_kept met.now.own.entries) (faults_kept_at met.now.in_subrs.entries))
+        (map entry_in_text entries.now)) }
 {
     for entry in entries {
         push_entry_faults(alloc, found, met, entry)?;
@@ -78,7 +77,7 @@ fn push_join_fault<'a>(
     entry: &EntryText<'a>,
 ) -> Result<(), AllocError>
     ensures { OnOk result (found.new.items
-        ≡ found.old.items ++ join_faults (drawing_in runs.now) (entry_of entry.now)) }
+        ≡ found.old.items ++ join_faults (drawing_in runs.now) (entry_in_text entry.now)) }
 {
     let Some(code) = join_fault(alloc, runs, &entry.place)? else {
         return Ok(());
@@ -95,7 +94,7 @@ fn push_join_faults<'a>(
     entries: &[EntryText<'a>],
 ) -> Result<(), AllocError>
     ensures { OnOk result (found.new.items ≡ found.old.items
-        ++ flat_map (join_faults (drawing_in runs.now)) (map entry_of entries.now)) }
+        ++ flat_map (join_faults (drawing_in runs.now)) (map entry_in_text entries.now)) }
 {
     for entry in entries {
         push_join_fault(alloc, found, runs, entry)?;
@@ -152,7 +151,7 @@ fn source_entries<'a>(
     source: &Source,
 ) -> Result<Vec<EntryText<'a>>, AllocError>
     ensures { IfOk result (λ entries.
-        map entry_of entries.items ≡ entries_in (parts_of (lines bytes.now)) source.now) }
+        map entry_in_text entries.items ≡ entries_in (parts_of (lines bytes.now)) source.now) }
 {
     match parts_of(bytes) {
         Ok(parts) => {
@@ -170,9 +169,9 @@ fn met_of_entries(
     entries: &[EntryText],
 ) -> Result<MetFaults, AllocError>
     ensures own { IfOk result (λ met. (g : List ℕ) → own_kept met.own.entries g
-        ≡ own_fault (failed_runs (failures_of runs.now) (map entry_of entries.now)) g) }
-    ensures in_subrs { IfOk result (λ met. (n k : ℕ) → kept_at met.in_subrs.entries n k
-        ≡ faults_at (failed_runs (failures_of runs.now) (map entry_of entries.now)) n k) }
+        ≡ own_fault (failed_runs (failures_of runs.now) (map entry_in_text entries.now)) g) }
+    ensures in_subrs { IfOk result (λ met. (n k : ℕ) → faults_kept_at met.in_subrs.entries n k
+        ≡ faults_at (failed_runs (failures_of runs.now) (map entry_in_text entries.now)) n k) }
 {
     let failed = failed_runs(alloc, runs, entries)?;
     met_faults(alloc, &failed)
@@ -186,8 +185,8 @@ fn faults_alone<'a>(
     entries: &[EntryText<'a>],
 ) -> Result<Vec<FoundFault<'a>>, AllocError>
     ensures { IfOk result (λ found. found.items
-        ≡ faults_by (failed_runs (failures_of runs.now) (map entry_of entries.now))
-        (drawing_in runs.now.runs) source.now (map entry_of entries.now)) }
+        ≡ faults_by (failed_runs (failures_of runs.now) (map entry_in_text entries.now))
+        (drawing_in runs.now.runs) source.now (map entry_in_text entries.now)) }
 {
     let met = met_of_entries(alloc, runs, entries)?;
     let mut found = Vec::new(alloc);
@@ -206,8 +205,8 @@ fn faults_by_runs<'a>(
 ) -> Result<Vec<FoundFault<'a>>, AllocError>
     ensures { IfOk result (λ found. found.items
         ≡ with_composites (drawing_in runs.now.runs) (glyph_names source.now.items)
-        (faults_by (failed_runs (failures_of runs.now) (map entry_of entries.now))
-        (drawing_in runs.now.runs) source.now (map entry_of entries.now))) }
+        (faults_by (failed_runs (failures_of runs.now) (map entry_in_text entries.now))
+        (drawing_in runs.now.runs) source.now (map entry_in_text entries.now))) }
 {
     let mut found = faults_alone(alloc, source, runs, entries)?;
     tell_composites(alloc, &mut found, &runs.runs, source.items())?;
@@ -221,7 +220,7 @@ fn faults_among<'a>(
     entries: &[EntryText<'a>],
 ) -> Result<Vec<FoundFault<'a>>, AllocError>
     ensures { IfOk result (λ found.
-        found.items ≡ faults_among source.now (map entry_of entries.now)) }
+        found.items ≡ faults_among source.now (map entry_in_text entries.now)) }
 {
     let runs = glyph_runs(alloc, source.items())?;
     faults_by_runs(alloc, source, &runs, entries)

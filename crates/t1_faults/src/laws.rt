@@ -9,7 +9,7 @@ ghost use Rattle.t1_pairs.specs.Kerning.{pairs};
 ghost use Rattle.t1_parts.specs.Reading.{reads};
 ghost use Rattle.t1_faults.specs.Judging.{checked, source_faults};
 ghost use Rattle.t1_faults.specs.Reading.{reading_fault};
-ghost use Rattle.t1_faults.specs.Telling.{IsAnswered, IsNamed, TellsComposites, TellsWord};
+ghost use Rattle.t1_faults.specs.Telling.{IsAccountedFor, IsNamed, TellsComposites, TellsWord};
 ghost use Rattle.t1_faults.specs.Telling.{runs_read};
 
 /// Where no fault is found, `check` passes.
@@ -26,7 +26,7 @@ pub fn none_where_check_passes()
 /// glyph is or stands on one of which a fault is found, or whose run met one in a Subr.
 pub fn reported_fault_is_found()
     ensures { (bytes : List ℕ) (fault : Fault) → checked bytes ≡ Err fault →
-        IsAnswered (runs_read (reads bytes)) (source_faults bytes) fault }
+        IsAccountedFor (runs_read (reads bytes)) (source_faults bytes) fault }
 {}
 
 /// The word of each fault that is found stands at its line and column.

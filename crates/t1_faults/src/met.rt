@@ -5,10 +5,12 @@ ghost use Rattle.std.specs.Prelude.{OnOk, length, map, if◌then◌else◌};
 ghost use Rattle.std.specs.List.{position_or_len};
 ghost use Rattle.std.specs.Option.{option_or};
 ghost use Rattle.std.specs.Str.{bytes_eq};
-ghost use Rattle.t1_chain.specs.Machine.{seen};
-ghost use Rattle.t1_faults.specs.GlyphRuns.{has_code, is_at, kept_at, own_kept, seen_run};
+ghost use Rattle.t1_chain.specs.Machine.{failure_seen};
+ghost use Rattle.t1_faults.specs.GlyphRuns.{has_fault_code, is_at, faults_kept_at, own_kept};
+ghost use Rattle.t1_faults.specs.GlyphRuns.{seen_run};
 ghost use Rattle.t1_faults.specs.GlyphRuns.{with_chain};
-ghost use Rattle.t1_faults.specs.Met.{FailedRun as FailedRunOf, chain_of, fails_in_glyph};
+ghost use Rattle.t1_faults.specs.Met.{chain_of, fails_in_glyph};
+ghost use Rattle.t1_chain.specs.GlyphFailures.{GlyphFailure as FailedRunOf};
 ghost use Rattle.t1_faults.specs.Met.{faults_at, faults_by_code, last_entered, own_fault};
 ghost use Rattle.t1_faults.specs.Met.{run_fault};
 
@@ -38,7 +40,7 @@ pub(crate) fn copied_detail(alloc: Global, detail: &Detail) -> Result<Detail, Al
 
 /// The Subr that a run entered last before it failed.
 fn last_entered(failure: &Failure) -> Option<u16>
-    ensures { result ≡ last_entered (seen failure.now).calls }
+    ensures { result ≡ last_entered (failure_seen failure.now).calls }
 {
     match failure.calls.last() {
         None => None,
@@ -70,7 +72,7 @@ fn chain_of(alloc: Global, run: &FailedRun) -> Result<CallChain, AllocError>
 
 /// The fault of a run that fails so, with these chains.
 fn run_fault(alloc: Global, chains: CallChains, failure: &Failure) -> Result<RunFault, AllocError>
-    ensures { IfOk result (λ fault. fault ≡ run_fault chains (seen failure.now)) }
+    ensures { IfOk result (λ fault. fault ≡ run_fault chains (failure_seen failure.now)) }
 {
     Ok(RunFault {
         word: failure.word,
@@ -90,7 +92,7 @@ fn keep_own(
     ensures { OnOk result ((g : List ℕ) → own_kept faults.new.entries g
         ≡ option_or
         (own_kept faults.old.entries g)
-        (if bytes_eq g name.now then Some (run_fault [] (seen failure.now)) else None)) }
+        (if bytes_eq g name.now then Some (run_fault [] (failure_seen failure.now)) else None)) }
 {
     let fault = run_fault(alloc, CallChains::new(alloc), failure)?;
     if faults.contains_key(name) {
@@ -110,7 +112,7 @@ fn add_own_fault(
         ≡ option_or
         (own_kept faults.old.entries g)
         (if fails_in_glyph g (seen_run run.now)
-        then Some (run_fault [] (seen run.now.failure)) else None)) }
+        then Some (run_fault [] (failure_seen run.now.failure)) else None)) }
 {
     if last_entered(&run.failure).is_some() {
         return Ok(());
@@ -136,7 +138,7 @@ fn own_faults(
 
 /// Whether a fault has this code.
 fn has_code(code: Code, fault: &RunFault) -> bool
-    ensures { result ≡ has_code code fault.now }
+    ensures { result ≡ has_fault_code code fault.now }
 {
     fault.code == code
 }
@@ -144,7 +146,7 @@ fn has_code(code: Code, fault: &RunFault) -> bool
 /// Which fault has this code, or how many there are.
 fn place_of_code(code: Code, faults: &[RunFault]) -> usize
     ensures within { result ≤ length faults.now }
-    ensures value { result ≡ position_or_len (has_code code) faults.now }
+    ensures value { result ≡ position_or_len (has_fault_code code) faults.now }
 {
     let mut at = 0;
     let mut rest = faults;
@@ -161,7 +163,7 @@ fn place_of_code(code: Code, faults: &[RunFault]) -> usize
 /// The fault of a run that fails in a Subr, with its chain.
 fn first_fault(alloc: Global, run: &FailedRun) -> Result<RunFault, AllocError>
     ensures { IfOk result (λ fault.
-        fault ≡ run_fault (chain_of (seen_run run.now) ∷ []) (seen run.now.failure)) }
+        fault ≡ run_fault (chain_of (seen_run run.now) ∷ []) (failure_seen run.now.failure)) }
 {
     let mut chains = CallChains::new(alloc);
     chains.push(chain_of(alloc, run)?)?;
@@ -199,9 +201,9 @@ fn taken(
     subr: u16,
     word: usize,
 ) -> Vec<RunFault>
-    ensures taken { result.items ≡ kept_at met.old.entries subr word }
-    ensures others { (n k : ℕ) → kept_at met.new.entries n k
-        ≡ (if is_at n k (subr, word) then [] else kept_at met.old.entries n k) }
+    ensures taken { result.items ≡ faults_kept_at met.old.entries subr word }
+    ensures others { (n k : ℕ) → faults_kept_at met.new.entries n k
+        ≡ (if is_at n k (subr, word) then [] else faults_kept_at met.old.entries n k) }
 {
     match met.swap_remove(&(subr, word)) {
         Some(faults) => faults,
@@ -216,8 +218,8 @@ fn keep(
     word: usize,
     faults: Vec<RunFault>,
 ) -> Result<(), AllocError>
-    ensures { OnOk result ((n k : ℕ) → kept_at met.new.entries n k
-        ≡ (if is_at n k (subr, word) then faults.items else kept_at met.old.entries n k)) }
+    ensures { OnOk result ((n k : ℕ) → faults_kept_at met.new.entries n k
+        ≡ (if is_at n k (subr, word) then faults.items else faults_kept_at met.old.entries n k)) }
 {
     met.insert((subr, word), faults)?;
     Ok(())
@@ -231,8 +233,8 @@ fn add_at(
     run: &FailedRun,
 ) -> Result<(), AllocError>
     ensures { OnOk result ((n k : ℕ) (runs : List FailedRunOf) →
-        kept_at met.old.entries n k ≡ faults_by_code runs →
-        kept_at met.new.entries n k
+        faults_kept_at met.old.entries n k ≡ faults_by_code runs →
+        faults_kept_at met.new.entries n k
         ≡ faults_by_code
         (if is_at n k (subr, run.now.failure.word) then runs ++ seen_run run.now ∷ [] else runs)) }
 {
@@ -250,8 +252,8 @@ fn add_in_subr(
     run: &FailedRun,
 ) -> Result<(), AllocError>
     ensures { OnOk result ((n k : ℕ) (runs : List FailedRunOf) →
-        kept_at met.old.entries n k ≡ faults_at runs n k →
-        kept_at met.new.entries n k ≡ faults_at (runs ++ seen_run run.now ∷ []) n k) }
+        faults_kept_at met.old.entries n k ≡ faults_at runs n k →
+        faults_kept_at met.new.entries n k ≡ faults_at (runs ++ seen_run run.now ∷ []) n k) }
 {
     let Some(subr) = last_entered(&run.failure) else {
         return Ok(());
@@ -266,7 +268,7 @@ fn faults_in_subrs(
     failed: &[FailedRun],
 ) -> Result<IndexMap<(u16, usize), Vec<RunFault>>, AllocError>
     ensures { IfOk result (λ met. (n k : ℕ) →
-        kept_at met.entries n k ≡ faults_at (map seen_run failed.now) n k) }
+        faults_kept_at met.entries n k ≡ faults_at (map seen_run failed.now) n k) }
 {
     let mut met = IndexMap::new(alloc);
     for run in failed {
@@ -289,7 +291,7 @@ pub(crate) fn met_faults(alloc: Global, failed: &[FailedRun]) -> Result<MetFault
     ensures own { IfOk result (λ met. (g : List ℕ) →
         own_kept met.own.entries g ≡ own_fault (map seen_run failed.now) g) }
     ensures in_subrs { IfOk result (λ met. (n k : ℕ) →
-        kept_at met.in_subrs.entries n k ≡ faults_at (map seen_run failed.now) n k) }
+        faults_kept_at met.in_subrs.entries n k ≡ faults_at (map seen_run failed.now) n k) }
 {
     Ok(MetFaults {
         own: own_faults(alloc, failed)?,

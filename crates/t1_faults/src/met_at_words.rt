@@ -3,9 +3,9 @@
 ghost use Rattle.std.specs.Prelude.{◌≡◌, ◌++◌, IfOk, OnOk, flat_map, length, map};
 ghost use Rattle.std.specs.List.{range_with_len};
 ghost use Rattle.std.specs.Option.{option_copied, option_to_list};
-ghost use Rattle.t1_faults.specs.Entries.{entry_of};
+ghost use Rattle.t1_faults.specs.CodeForms.{entry_in_text};
 ghost use Rattle.t1_faults.specs.Found.{in_entry};
-ghost use Rattle.t1_faults.specs.GlyphRuns.{kept_at, own_kept};
+ghost use Rattle.t1_faults.specs.GlyphRuns.{faults_kept_at, own_kept};
 ghost use Rattle.t1_faults.specs.Judging.{run_faults};
 
 use crate::entry_text::EntryText;
@@ -25,7 +25,8 @@ fn in_entry<'a>(
     placed: &[PlacedWord<'a>],
     fault: &RunFault,
 ) -> Result<FoundFault<'a>, AllocError>
-    ensures { IfOk result (λ found. found ≡ in_entry (entry_of entry.now) placed.now fault.now) }
+    ensures { IfOk result
+        (λ found. found ≡ in_entry (entry_in_text entry.now) placed.now fault.now) }
 {
     let found = match placed.get(fault.word) {
         None => at_entry(alloc, entry, fault.code)?,
@@ -52,7 +53,7 @@ fn push_faults_in<'a>(
     faults: &[RunFault],
 ) -> Result<(), AllocError>
     ensures { OnOk result (found.new.items
-        ≡ found.old.items ++ map (in_entry (entry_of entry.now) placed.now) faults.now) }
+        ≡ found.old.items ++ map (in_entry (entry_in_text entry.now) placed.now) faults.now) }
 {
     for fault in faults {
         found.push(in_entry(alloc, entry, placed, fault)?)?;
@@ -78,7 +79,7 @@ fn push_own_fault<'a>(
 ) -> Result<(), AllocError>
     ensures { OnOk result (found.new.items
         ≡ found.old.items
-        ++ map (in_entry (entry_of entry.now) placed.now)
+        ++ map (in_entry (entry_in_text entry.now) placed.now)
         (option_to_list (own_kept own.now.entries name.now))) }
 {
     let Some(fault) = own_of(own, name) else {
@@ -90,7 +91,7 @@ fn push_own_fault<'a>(
 
 /// The faults that runs met at a word of a Subr.
 fn met_at(in_subrs: &IndexMap<(u16, usize), Vec<RunFault>>, subr: u16, word: usize) -> &[RunFault]
-    ensures { result.now ≡ kept_at in_subrs.now.entries subr word }
+    ensures { result.now ≡ faults_kept_at in_subrs.now.entries subr word }
 {
     match in_subrs.get(&(subr, word)) {
         None => &[],
@@ -107,10 +108,12 @@ fn push_subr_faults<'a>(
     in_subrs: &IndexMap<(u16, usize), Vec<RunFault>>,
     subr: u16,
 ) -> Result<(), AllocError>
-    ensures { OnOk result (found.new.items
+    ensures { OnOk result
+        (found.new.items
         ≡ found.old.items
-        ++ map (in_entry (entry_of entry.now) placed.now)
-        (flat_map (kept_at in_subrs.now.entries subr) (range_with_len 0 (length placed.now)))) }
+        ++ map (in_entry (entry_in_text entry.now) placed.now)
+        (flat_map (faults_kept_at in_subrs.now.entries subr)
+        (range_with_len 0 (length placed.now)))) }
 {
     for word in 0..placed.len() {
         push_faults_in(alloc, found, entry, placed, met_at(in_subrs, subr, word))?;
@@ -127,8 +130,8 @@ pub(crate) fn push_run_faults<'a>(
 ) -> Result<(), AllocError>
     ensures { OnOk result (found.new.items
         ≡ found.old.items
-        ++ run_faults (own_kept met.now.own.entries) (kept_at met.now.in_subrs.entries)
-        (entry_of entry.now)) }
+        ++ run_faults (own_kept met.now.own.entries) (faults_kept_at met.now.in_subrs.entries)
+        (entry_in_text entry.now)) }
 {
     let placed = entry.words(alloc)?;
     match &entry.place {

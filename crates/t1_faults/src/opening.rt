@@ -2,9 +2,12 @@
 
 ghost use Rattle.std.specs.Prelude.{◌≡◌, false, option_map};
 ghost use Rattle.t1_text.specs.Lines.{lines};
-ghost use Rattle.t1_faults.specs.Openings.{begins_section, detail_on, first_opening, glyph_opened};
-ghost use Rattle.t1_faults.specs.Openings.{is_named, is_number, key_of, key_opened, line_told};
-ghost use Rattle.t1_faults.specs.Openings.{opens, subr_opened};
+ghost use Rattle.t1_faults.specs.Openings.{begins_section_of, detail_on, first_line_opening};
+ghost use Rattle.t1_faults.specs.Openings.{glyph_opened};
+ghost use Rattle.t1_faults.specs.Openings.{is_this_number, key_opened, line_told};
+ghost use Rattle.t1_text.specs.Tokens.{is_token};
+ghost use Rattle.t1_faults.specs.CodeForms.{key_found};
+ghost use Rattle.t1_faults.specs.Openings.{opens_entry_at, subr_opened};
 
 use t1_chain::Detail;
 use t1_frac::Code;
@@ -40,7 +43,7 @@ fn glyph_opened(line: &[u8]) -> Option<&[u8]>
 
 /// What a line opens a second time, by the code of its fault.
 fn key_opened(code: Code, line: &[u8]) -> Option<Opened<'_>>
-    ensures { option_map key_of result ≡ key_opened code line.now }
+    ensures { option_map key_found result ≡ key_opened code line.now }
 {
     match code {
         Code::F9 => match subr_opened(line) {
@@ -57,7 +60,7 @@ fn key_opened(code: Code, line: &[u8]) -> Option<Opened<'_>>
 
 /// Whether a line opens the Subr of this number.
 fn opens_number(number: u32, line: &[u8]) -> bool
-    ensures { result ≡ is_number number (subr_opened line.now) }
+    ensures { result ≡ is_this_number number (subr_opened line.now) }
 {
     match subr_opened(line) {
         None => false,
@@ -67,7 +70,7 @@ fn opens_number(number: u32, line: &[u8]) -> bool
 
 /// Whether a line opens the glyph of this name.
 fn opens_name(name: &[u8], line: &[u8]) -> bool
-    ensures { result ≡ is_named name.now (glyph_opened line.now) }
+    ensures { result ≡ is_token name.now (glyph_opened line.now) }
 {
     match glyph_opened(line) {
         None => false,
@@ -77,7 +80,7 @@ fn opens_name(name: &[u8], line: &[u8]) -> bool
 
 /// Whether a line opens this.
 fn opens(key: &Opened, line: &[u8]) -> bool
-    ensures { result ≡ opens (key_of key.now) line.now }
+    ensures { result ≡ opens_entry_at (key_found key.now) line.now }
 {
     match key {
         Opened::Subr(number) => opens_number(*number, line),
@@ -87,7 +90,7 @@ fn opens(key: &Opened, line: &[u8]) -> bool
 
 /// Whether a line begins the section in which this stands.
 fn begins_section(key: &Opened, line: &[u8]) -> bool
-    ensures { result ≡ begins_section (key_of key.now) line.now }
+    ensures { result ≡ begins_section_of (key_found key.now) line.now }
 {
     match key {
         Opened::Subr(_number) => count_between(b"/Subrs", b"array", line).is_some(),
@@ -98,7 +101,7 @@ fn begins_section(key: &Opened, line: &[u8]) -> bool
 /// The number of the first line that opens this in its section.
 #[tactic(auto, using(t1_text::proofs::CutLaws::lines_within))]
 fn first_opening(key: &Opened, bytes: &[u8]) -> Option<u64>
-    ensures { result ≡ first_opening (key_of key.now) false 1 (lines bytes.now) }
+    ensures { result ≡ first_line_opening (key_found key.now) false 1 (lines bytes.now) }
 {
     let mut number = 1;
     let mut begun = false;

@@ -3,7 +3,7 @@
 ghost use Rattle.std.specs.Prelude.{◌≡◌, ◌-◌, ◌≤◌, []};
 ghost use Rattle.std.specs.List.{slice_index_or};
 ghost use Rattle.t1_text.specs.Lines.{lines};
-ghost use Rattle.t1_faults.specs.Reading.{at_front, on_line, reading_fault};
+ghost use Rattle.t1_faults.specs.Reading.{at_front, fault_on_line, reading_fault};
 
 use crate::call_chains::CallChains;
 use crate::found::FoundFault;
@@ -35,7 +35,7 @@ fn line_of(bytes: &[u8], number: u64) -> &[u8]
 
 /// A fault on the line of this number: all of the line but the blanks at both ends.
 fn on_line(alloc: Global, bytes: &[u8], code: Code, number: u64) -> FoundFault<'_>
-    ensures { result ≡ on_line (lines bytes.now) code number }
+    ensures { result ≡ fault_on_line (lines bytes.now) code number }
 {
     let line = line_of(bytes, number);
     FoundFault {

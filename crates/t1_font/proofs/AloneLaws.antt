@@ -12,7 +12,7 @@ use Rattle.t1_source.specs.Editing.{is_subr_entry}
 use Rattle.t1_source.specs.WellFormed.{is_counted}
 use Rattle.t1_font.specs.Bodies.{bodies_check, body_check, glyph_among, glyph_in, subr_among, subr_in}
 use Rattle.t1_font.specs.Glyphs.{glyph_names, name_in}
-use Rattle.t1_font.specs.ToRun.{SubrsStandFirst}
+use Rattle.t1_font.specs.InTurn.{SubrsStandFirst}
 use Rattle.t1_font.proofs.SubrsFirst.{first-more, later}
 
 -- what plain lines add nothing to is the same without those that don't stand alone

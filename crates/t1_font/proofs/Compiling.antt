@@ -9,7 +9,7 @@ use Rattle.t1_frac.specs.declared.fault.Place.{Place}
 use Rattle.t1_frac.specs.Outcome.{reported_at}
 use Rattle.t1_parts.specs.declared.item.Item.{Item}
 use Rattle.t1_run.specs.Run.{FontBodies, Subr, Glyph}
-use Rattle.t1_font.specs.Bodies.{SameBodies}
+use Rattle.t1_font.specs.KeptBodies.{SameBodies}
 
 or-cond : {X : Type 0} (b : Bool) (x : X) (r s : Option X) → cond b (Some x) (option_or r s) ≡ option_or (cond b (Some x) r) s
 or-cond true x r s = refl

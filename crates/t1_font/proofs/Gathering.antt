@@ -13,7 +13,8 @@ use Rattle.t1_run.specs.Run.{Drawing}
 use Rattle.t1_font.specs.declared.glyph_metrics.GlyphMetrics.{GlyphMetrics}
 use Rattle.t1_font.specs.Glyphs.{Glyph, glyph_of, glyphs_by}
 use Rattle.t1_font.proofs.Drawing.{refuses-then}
-use Rattle.t1_font.specs.MeasuredGlyphs.{glyph_metrics, glyph_metrics_at, glyph_metrics_among}
+use Rattle.t1_font.specs.MeasuredGlyphs.{glyph_metrics, glyph_metrics_at}
+use Rattle.t1_font.specs.MetricsByRuns.{glyph_metrics_among}
 
 -- what runs that are kept draw, by the names of their glyphs
 abbrev Runs : Type 0

@@ -25,9 +25,10 @@ use Rattle.t1_font.specs.declared.in_turn.Row.{Row}
 use Rattle.t1_font.specs.declared.in_turn.Row.TheVariants as rows
 use Rattle.t1_font.specs.Bodies.{subr_among}
 use Rattle.t1_font.specs.Glyphs.{glyph_names, name_in}
-use Rattle.t1_font.specs.InTurn.{may_be_part, staying, AreRows, IsRow, RunsAs}
-use Rattle.t1_font.specs.ToRun.{commands_or_none, font_to_run, glyph_to_run, SubrsStandFirst}
-use Rattle.t1_font.specs.MeasuredGlyphs.{glyph_metrics_among, glyph_metrics_at, glyph_metrics_by}
+use Rattle.t1_font.specs.InTurn.{may_be_part, staying, AreRows, IsRow, RunsAs, SubrsStandFirst}
+use Rattle.t1_font.specs.ToRun.{commands_or_none, font_to_run, glyph_to_run}
+use Rattle.t1_font.specs.MeasuredGlyphs.{glyph_metrics_at}
+use Rattle.t1_font.specs.MetricsByRuns.{glyph_metrics_among, glyph_metrics_by}
 use Rattle.t1_font.proofs.Compiling.{same-maps}
 use Rattle.t1_font.proofs.Gathering.{put_after, one-reported, one-refused}
 use Rattle.t1_run.proofs.Asked.{bytes_same}

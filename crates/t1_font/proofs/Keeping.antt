@@ -11,7 +11,8 @@ use Rattle.t1_frac.specs.declared.fault.Code.{Code}
 use Rattle.t1_run.specs.Run.{FontBodies, own}
 use Rattle.t1_run.proofs.Asked.{bytes_same}
 use Rattle.t1_extent.specs.Kept.{TracedRun}
-use Rattle.t1_font.specs.Runs.{NamedRun, drawing_kept, drawing_in, run_kept, own_among, counted, AreTraced, CountsSome, IsNumberedAfter, IsTracedAs}
+use Rattle.t1_font.specs.Runs.{NamedRun, drawing_kept, drawing_in, run_kept, own_among, AreTraced, CountsSome, IsNumberedAfter, IsTracedAs}
+use Rattle.t1_font.specs.RunCounts.{counted}
 
 -- what is found, through a borrow
 pub copied-map : {X Y : Type 0} (view : X → Y) (r : Option (Bor X)) → option_map (λ x. view x.now) r ≡ option_map view (option_copied r)

@@ -26,10 +26,12 @@ use Rattle.t1_afm.specs.declared.bbox.BBox.{BBox}
 use Rattle.t1_afm.specs.Box.{drawn_box, font_box, united}
 use Rattle.t1_afm.proofs.Fonts.{font_box_of_boxes}
 use Rattle.t1_font.specs.declared.glyph_metrics.GlyphMetrics.{GlyphMetrics}
-use Rattle.t1_font.specs.Bodies.{bodies, bodies_check, words_check, glyph_among, SameBodies}
+use Rattle.t1_font.specs.Bodies.{bodies, bodies_check, words_check, glyph_among}
+use Rattle.t1_font.specs.KeptBodies.{SameBodies}
 use Rattle.t1_font.specs.Glyphs.{Glyph as Drawn, glyphs, glyphs_by, glyph_names}
 use Rattle.t1_font.specs.Runs.{NamedRun, drawing_in, own_among}
-use Rattle.t1_font.specs.MeasuredGlyphs.{glyph_metrics, glyph_metrics_among, measured, MeasuredFont}
+use Rattle.t1_font.specs.MeasuredGlyphs.{glyph_metrics, measured, MeasuredFont}
+use Rattle.t1_font.specs.MetricsByRuns.{glyph_metrics_among}
 use Rattle.t1_run.proofs.Asked.{bytes_self}
 
 -- ---- the glyphs of a source are there

@@ -12,7 +12,8 @@ use Rattle.t1_code.specs.Charstring.{charstring}
 use Rattle.t1_code.specs.Cipher.{encrypted_charstring, encrypted_words}
 use Rattle.t1_code.specs.Pfb.{closing_text, entry_text}
 use Rattle.t1_parts.specs.declared.item.Item.{Item}
-use Rattle.t1_font.specs.Assembly.{put_after, entry_line, item_line, private_text}
+use Rattle.t1_font.specs.Assembly.{entry_line, item_line, private_text}
+use Rattle.t1_font.specs.Lengths.{put_after}
 
 entry_at : (lead : ℕ) (operator : List ℕ) (place : Place) (head closing : List ℕ) (read : Result (List Command) Code)
     → (reported_at place read >>= λ body. Ok (entry_text head operator (encrypted_charstring lead (charstring body)) closing))

@@ -8,7 +8,7 @@ use Rattle.t1_parts.specs.declared.item.Item.TheVariants.{Plain, Section, Subr, 
 use Rattle.t1_parts.specs.Counts.{is_glyph_entry}
 use Rattle.t1_source.specs.Editing.{is_subr_entry}
 use Rattle.t1_font.specs.Bodies.{bodies_check, body_check}
-use Rattle.t1_font.specs.ToRun.{SubrsStandFirst}
+use Rattle.t1_font.specs.InTurn.{SubrsStandFirst}
 
 pub later : (item : Item) (items : List Item) → SubrsStandFirst (item ∷ items) → SubrsStandFirst items
 later item items h a b g ws closing e = h (item ∷ a) b g ws closing (ap (λ (l : List Item). item ∷ l) e)

@@ -66,8 +66,3 @@ counts_check items = if list_all is_counted items then Ok tt else Err (fault_at 
 -- profile: whether a source has its PFB file and a text: the first fault of its bodies, or F23
 unfoldable pub file_check : SourceParts → Result (Unit {0}) Fault
 file_check source = length_check source >>= λ checked. counts_check source.items
-
--- word: a text stands in front of what a definition gives
-abbrev pub put_after : List ℕ → Result (List ℕ) Fault → Result (List ℕ) Fault
-put_after front (Ok rest) = Ok (front ++ rest)
-put_after front (Err fault) = Err fault

@@ -1,10 +1,8 @@
 -- The bodies of a source, compiled.
-use Rattle.std.specs.Prelude.{ℕ, nat_eq, ◌==◌, if◌then◌else◌, List, [], ◌∷◌, Option, None, Result, Ok}
-use Rattle.std.specs.Map.{lookup}
+use Rattle.std.specs.Prelude.{ℕ, ◌==◌, if◌then◌else◌, List, [], ◌∷◌, Option, None, Result, Ok}
 use Rattle.std.specs.Option.{option_or}
 use Rattle.std.specs.Result.{result_ok}
 use Rattle.std.specs.Str.{bytes_eq}
-use Rattle.std.specs.declared.vec.Vec.{Vec}
 use Rattle.t1_frac.specs.declared.fault.Fault.{Fault}
 use Rattle.t1_frac.specs.declared.fault.Place.{Place}
 use Rattle.t1_frac.specs.declared.fault.Place.TheVariants as places
@@ -13,9 +11,7 @@ use Rattle.t1_parts.specs.declared.item.Item.{Item}
 use Rattle.t1_parts.specs.declared.item.Item.TheVariants.{Subr, Glyph}
 use Rattle.t1_code.specs.declared.command.Command.{Command}
 use Rattle.t1_code.specs.Words.{commands}
-use Rattle.t1_run.specs.declared.plain.Plain.{Plain}
-use Rattle.t1_run.specs.Run.{FontBodies, Key, font}
-use Rattle.t1_run.specs.Footprint.{SameAt}
+use Rattle.t1_run.specs.Run.{FontBodies, font}
 
 -- profile: the item's body, where it is the Subr of this number and its words are commands
 abbrev pub subr_in : Item → ℕ → Option (List Command)
@@ -57,21 +53,3 @@ body_check _ = Ok tt
 abbrev pub bodies_check : List Item → Result (Unit {0}) Fault
 bodies_check [] = Ok tt
 bodies_check (item ∷ items) = body_check item >>= λ _. bodies_check items
-
--- ---- the maps of the code
-
--- word: the body that is kept for a number
-abbrev pub subr_body_kept : List (ℕ × List Command) → ℕ → Option (List Command)
-subr_body_kept entries n = lookup (nat_eq n) entries
-
--- word: the body that is kept for a name
-abbrev pub glyph_body_kept : {A : Type 0} → List (Vec ℕ A × List Command) → List ℕ → Option (List Command)
-glyph_body_kept entries g = lookup (λ key. bytes_eq g key.items) entries
-
--- word: the bodies that both maps keep
-abbrev pub plain_bodies : Plain → FontBodies
-plain_bodies plain = font (subr_body_kept plain.subrs.entries) (glyph_body_kept plain.glyphs.entries)
-
--- word: both fonts have the same body, or both none, at each key
-abbrev pub SameBodies : FontBodies → FontBodies → Type 0
-SameBodies m n = (key : Key) → SameAt m n key

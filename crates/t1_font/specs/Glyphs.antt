@@ -1,7 +1,6 @@
 -- The glyphs of a font: what each draws, its box, and the first fault.
-use Rattle.std.specs.Prelude.{ℕ, List, [], ◌∷◌, flat_map, Option, None, Some, Result, Ok, Err}
+use Rattle.std.specs.Prelude.{ℕ, List, [], ◌∷◌, flat_map, Option, None, Some, Result, Ok}
 use Rattle.t1_frac.specs.declared.fault.Code.{Code}
-use Rattle.t1_frac.specs.declared.fault.Code.TheVariants.{F45}
 use Rattle.t1_frac.specs.declared.fault.Fault.{Fault}
 use Rattle.t1_frac.specs.declared.fault.Place.TheVariants as places
 use Rattle.t1_frac.specs.Outcome.{reported_at, ◌>>=◌}
@@ -12,6 +11,7 @@ use Rattle.t1_run.specs.declared.outline.Point.{Point}
 use Rattle.t1_run.specs.declared.outline.Segment.{Segment}
 use Rattle.t1_run.specs.Composite.{accent_move, outline}
 use Rattle.t1_run.specs.Run.{FontBodies, Drawing, own}
+use Rattle.t1_extent.specs.FoundRuns.{run_there}
 use Rattle.t1_font.specs.declared.glyph_metrics.PlacedParts.{PlacedParts}
 
 -- profile: the name of an item, where it is a glyph
@@ -34,11 +34,6 @@ pub record Glyph : Type 0 where
   pub drawing : Drawing
   pub outline : List Segment
   pub parts : Option PlacedParts
-
--- profile: a run that is missing is F45
-abbrev pub run_there : Option (Result Drawing Code) → Result Drawing Code
-run_there None = Err F45
-run_there (Some run) = run
 
 -- profile, order of faults: the glyph's own run, then its outline, of which the move of its accent is a part
 abbrev pub glyph_of : List ℕ → Option (Result Drawing Code) → Result (List Segment) Code → Result Glyph Code

@@ -1,5 +1,5 @@
 -- Glyphs that are compiled, run and measured one after another, so that no body of a glyph is stored.
-use Rattle.std.specs.Prelude.{◌≡◌, true, false, ◌&&◌, ◌||◌, ℕ, Bool, List, [], ◌∷◌, Option, None, Some, Result, Ok, Err, is_some, if◌then◌else◌}
+use Rattle.std.specs.Prelude.{◌≡◌, true, false, ◌&&◌, ◌||◌, ℕ, Bool, List, [], ◌∷◌, Option, None, Some, Result, Ok, Err, is_some, if◌then◌else◌, ◌++◌}
 use Rattle.std.specs.List.{list_any}
 use Rattle.std.specs.Str.{bytes_eq}
 use Rattle.t1_frac.specs.declared.fault.Code.{Code}
@@ -12,11 +12,13 @@ use Rattle.t1_font.specs.declared.source_bodies.SourceBodies.{SourceBodies}
 use Rattle.t1_font.specs.declared.in_turn.Row.{Row}
 use Rattle.t1_font.specs.declared.in_turn.Row.TheVariants as rows
 use Rattle.t1_font.specs.Glyphs.{glyph_names}
-use Rattle.t1_font.specs.ToRun.{commands_or_none, font_to_run, glyph_to_run, subr_stored}
+use Rattle.t1_font.specs.ToRun.{commands_or_none, font_to_run, glyph_to_run}
+use Rattle.t1_font.specs.StoredSubrs.{subr_stored}
 use Rattle.t1_run.specs.declared.outline.Composite.{Composite}
 use Rattle.t1_run.specs.Composite.{HasStandardParts}
 use Rattle.t1_font.specs.MeasuredGlyphs.{glyph_metrics_at}
 use Rattle.t1_font.specs.Runs.{NamedRun, drawing_in}
+use Rattle.t1_source.specs.Editing.{is_subr_entry}
 
 -- word: what a run asks for: the Subrs that are compiled so far, and the glyphs of the items
 abbrev pub source_font : SourceBodies → FontBodies
@@ -74,3 +76,7 @@ pub record RunsStay (run : List ℕ → Option (Result Drawing Code)) (names : L
   pub kept : (g : List ℕ) → drawing_in runs g ≡ staying run names g
   pub parts : HaveStandardParts run
   pub absent : (g : List ℕ) → list_any (bytes_eq g) names ≡ false → run g ≡ None
+
+-- word: no Subr stands after a glyph
+abbrev pub SubrsStandFirst : List Item → Type 0
+SubrsStandFirst all = (a b : List Item) (g : List ℕ) (words : List (List ℕ)) (closing : List ℕ) → all ≡ a ++ items.Glyph g words closing ∷ b → list_any is_subr_entry b ≡ false

@@ -1,5 +1,5 @@
--- How long a source's private text is.
-use Rattle.std.specs.Prelude.{◌≡◌, ◌^◌, ◌-◌, ℕ, List, Result, Ok, length, min}
+-- A source's private text, as it is put together, and how long it is.
+use Rattle.std.specs.Prelude.{◌≡◌, ◌^◌, ◌-◌, ℕ, List, Result, Ok, length, min, ◌++◌, Err}
 use Rattle.t1_frac.specs.declared.fault.Fault.{Fault}
 use Rattle.t1_frac.specs.Outcome.{◌>>=◌}
 use Rattle.t1_parts.specs.declared.item.Item.{Item}
@@ -15,3 +15,8 @@ IsPrivateLen s len = (text : List ℕ) × (private_text (lead s) (operator s) s.
 -- word: how long the private text of the items is, or 2^64 - 1 where it is longer; or the first fault of their bodies
 abbrev pub private_length : ℕ → List ℕ → List Item → Result ℕ Fault
 private_length lead operator items = private_text lead operator items >>= λ text. Ok (min (length text) (2 ^ 64 - 1))
+
+-- word: a text stands in front of what a definition gives
+abbrev pub put_after : List ℕ → Result (List ℕ) Fault → Result (List ℕ) Fault
+put_after front (Ok rest) = Ok (front ++ rest)
+put_after front (Err fault) = Err fault

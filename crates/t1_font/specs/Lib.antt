@@ -4,12 +4,16 @@ pub mod ByCode
 pub mod FontMetrics
 pub mod Glyphs
 pub mod InTurn
+pub mod KeptBodies
 pub mod Laws
 pub mod Lengths
 pub mod MeasuredGlyphs
 pub mod Metrics
+pub mod MetricsByRuns
 pub mod Names
+pub mod RunCounts
 pub mod Runs
 pub mod SourceChecks
+pub mod StoredSubrs
 pub mod ToRun
 pub mod Usage

@@ -10,7 +10,7 @@ use Rattle.t1_afm.specs.declared.bbox.BBox.{BBox}
 use Rattle.t1_afm.specs.Box.{drawn_box, font_box}
 use Rattle.t1_font.specs.declared.glyph_metrics.GlyphMetrics.{GlyphMetrics}
 use Rattle.t1_font.specs.Bodies.{bodies}
-use Rattle.t1_font.specs.Glyphs.{Glyph, glyph_of, placed_parts_of, glyphs_by, glyphs, glyph_names}
+use Rattle.t1_font.specs.Glyphs.{Glyph, glyph_of, glyphs, glyph_names}
 
 -- profile: what is reported of a glyph: its name, width and parts, and its box where it draws
 abbrev pub glyph_metrics : Glyph → GlyphMetrics
@@ -22,21 +22,10 @@ glyph_metrics g = record {
   bbox = drawn_box g.outline;
 }
 
--- word: what is reported of a glyph, by what its run draws and its box
-abbrev pub glyph_metrics_by : List ℕ → Drawing → Option BBox → Result GlyphMetrics Code
-glyph_metrics_by name drawing box =
-    placed_parts_of drawing.bearing drawing.composite >>= (λ parts.
-    Ok (record { name = name; width = drawing.width; entered = drawing.entered; parts = parts; bbox = box }))
-
 -- profile: what is reported of a glyph, by runs that are kept
 unfoldable pub glyph_metrics_at : (List ℕ → Option (Result Drawing Code)) → List ℕ → Result GlyphMetrics Code
 glyph_metrics_at run name =
     glyph_of name (run name) (outline_within run 4 name) >>= (λ glyph. Ok (glyph_metrics glyph))
-
--- word: what is reported of these glyphs, by runs that are kept
-unfoldable pub glyph_metrics_among : (List ℕ → Option (Result Drawing Code)) → List (List ℕ) → Result (List GlyphMetrics) Fault
-glyph_metrics_among run names =
-    glyphs_by run (outline_within run 4) names >>= (λ glyphs. Ok (map glyph_metrics glyphs))
 
 -- profile: what is reported of the glyphs, in the order of their entries, and the font's box
 pub record MeasuredFont : Type 0 where

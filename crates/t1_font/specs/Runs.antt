@@ -1,5 +1,5 @@
 -- Runs kept by the names of their glyphs.
-use Rattle.std.specs.Prelude.{◌≡◌, true, ◌≤◌, ℕ, zero, suc, ◌+◌, ◌-◌, ◌^◌, min, if◌then◌else◌, List, Option, None, Some, option_map, Result, Ok, Err}
+use Rattle.std.specs.Prelude.{◌≡◌, true, ◌≤◌, ℕ, if◌then◌else◌, List, Option, None, Some, option_map, Result, Ok, Err}
 use Rattle.std.specs.List.{list_any}
 use Rattle.std.specs.Map.{lookup}
 use Rattle.std.specs.Str.{bytes_eq}
@@ -8,6 +8,7 @@ use Rattle.t1_frac.specs.declared.fault.Refusal.{Refusal}
 use Rattle.t1_frac.specs.declared.fault.Refusal.TheVariants as refusals
 use Rattle.t1_run.specs.Run.{FontBodies, Drawing, own}
 use Rattle.t1_extent.specs.Kept.{TracedRun, traces}
+use Rattle.t1_font.specs.RunCounts.{counted}
 
 -- word: what is kept of a run: what it draws, or its first fault
 abbrev pub drawing_kept : Result TracedRun Code → Result Drawing Code
@@ -39,11 +40,6 @@ AreTraced runs = (g : List ℕ) → IsTracedAs g (run_kept runs g)
 -- word: what the own bodies of these glyphs draw, or their first faults
 abbrev pub own_among : FontBodies → List (List ℕ) → List ℕ → Option (Result Drawing Code)
 own_among m names g = if list_any (bytes_eq g) names then own m g else None
-
--- profile: a count after so many more runs; it stops at 2^64 - 1
-abbrev pub counted : ℕ → ℕ → ℕ
-counted count zero = count
-counted count (suc runs) = min (counted count runs + 1) (2 ^ 64 - 1)
 
 -- word: at most so many runs were counted
 abbrev pub CountsSome : ℕ → ℕ → ℕ → Type 0

@@ -7,8 +7,10 @@ ghost use Rattle.t1_frac.specs.Outcome.{Gives, reported_at};
 ghost use Rattle.t1_frac.specs.declared.fault.Place.TheVariants as places;
 ghost use Rattle.t1_code.specs.Words.{commands};
 ghost use Rattle.t1_font.specs.Bodies.{bodies, bodies_check, body_check, words_check, glyph_among};
-ghost use Rattle.t1_font.specs.Bodies.{glyph_in, glyph_body_kept, plain_bodies, subr_among};
-ghost use Rattle.t1_font.specs.Bodies.{subr_in, subr_body_kept, SameBodies};
+ghost use Rattle.t1_font.specs.Bodies.{glyph_in, subr_among};
+ghost use Rattle.t1_font.specs.KeptBodies.{glyph_body_kept, plain_bodies};
+ghost use Rattle.t1_font.specs.Bodies.{subr_in};
+ghost use Rattle.t1_font.specs.KeptBodies.{subr_body_kept, SameBodies};
 
 use indexmap::IndexMap;
 use std::alloc::Global;

@@ -3,9 +3,10 @@ ghost use Rattle.std.specs.Prelude.{◌≡◌, map, Ok, Err, MatchResult};
 ghost use Rattle.t1_frac.specs.Outcome.{Gives, reported_at};
 ghost use Rattle.t1_frac.specs.declared.fault.Place.TheVariants as places;
 ghost use Rattle.t1_afm.specs.Box.{united};
-ghost use Rattle.t1_font.specs.Glyphs.{placed_parts_of, run_there};
-ghost use Rattle.t1_font.specs.MeasuredGlyphs.{glyph_metrics_at, glyph_metrics_among};
-ghost use Rattle.t1_font.specs.MeasuredGlyphs.{glyph_metrics_by};
+ghost use Rattle.t1_font.specs.Glyphs.{placed_parts_of};
+ghost use Rattle.t1_extent.specs.FoundRuns.{run_there};
+ghost use Rattle.t1_font.specs.MeasuredGlyphs.{glyph_metrics_at};
+ghost use Rattle.t1_font.specs.MetricsByRuns.{glyph_metrics_among, glyph_metrics_by};
 
 use crate::numbers::SubrNumbers;
 use std::alloc::Global;
@@ -122,7 +123,7 @@ pub(crate) fn placed_metrics<'a, R: KeptRuns>(
 }
 
 /// What is measured of these glyphs, in their order, or the first fault of a glyph.
-#[tactic(auto, unfolding(crate::specs::MeasuredGlyphs::glyph_metrics_among))]
+#[tactic(auto, unfolding(crate::specs::MetricsByRuns::glyph_metrics_among))]
 pub fn glyph_metrics_of<'a, R: KeptRuns>(
     alloc: Global,
     runs: &R,

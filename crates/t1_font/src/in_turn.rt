@@ -12,9 +12,10 @@ ghost use Rattle.t1_frac.specs.declared.fault.Code.{Code as CodeOf};
 ghost use Rattle.t1_afm.specs.Box.{drawn_box};
 ghost use Rattle.t1_font.specs.Bodies.{words_check};
 ghost use Rattle.t1_font.specs.InTurn.{source_font, may_be_part, IsRow};
-ghost use Rattle.t1_font.specs.MeasuredGlyphs.{glyph_metrics_by};
+ghost use Rattle.t1_font.specs.MetricsByRuns.{glyph_metrics_by};
 ghost use Rattle.t1_font.specs.ToRun.{commands_or_none, glyph_to_run};
-ghost use Rattle.t1_font.specs.Runs.{counted, drawing_kept, drawing_in, run_kept, IsTracedAs};
+ghost use Rattle.t1_font.specs.Runs.{drawing_kept, drawing_in, run_kept, IsTracedAs};
+ghost use Rattle.t1_font.specs.RunCounts.{counted};
 
 use crate::glyph_metrics::GlyphMetrics;
 use crate::numbers::SubrNumbers;

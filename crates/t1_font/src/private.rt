@@ -6,7 +6,8 @@ ghost use Rattle.t1_frac.specs.Outcome.{Gives, reported_at};
 ghost use Rattle.t1_parts.specs.ItemRefs.{item_of};
 ghost use Rattle.t1_code.specs.Cipher.{encrypted_words};
 ghost use Rattle.t1_code.specs.Pfb.{closing_text, entry_text};
-ghost use Rattle.t1_font.specs.Assembly.{put_after, item_line, private_text};
+ghost use Rattle.t1_font.specs.Assembly.{item_line, private_text};
+ghost use Rattle.t1_font.specs.Lengths.{put_after};
 ghost use Rattle.t1_font.specs.Lengths.{private_length};
 
 use itoa::Buffer;

@@ -4,7 +4,8 @@ ghost use Rattle.std.specs.Prelude.{OnOk, OnErr, option_map, if◌then◌else◌
 ghost use Rattle.std.specs.Option.{option_copied};
 ghost use Rattle.std.specs.Str.{bytes_eq};
 ghost use Rattle.t1_run.specs.Run.{font, own};
-ghost use Rattle.t1_font.specs.Runs.{drawing_kept, drawing_in, run_kept, own_among, counted};
+ghost use Rattle.t1_font.specs.Runs.{drawing_kept, drawing_in, run_kept, own_among};
+ghost use Rattle.t1_font.specs.RunCounts.{counted};
 ghost use Rattle.t1_font.specs.Runs.{AreTraced, CountsSome, IsNumberedAfter, IsTracedAs};
 
 use indexmap::IndexMap;

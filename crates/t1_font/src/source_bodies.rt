@@ -1,6 +1,7 @@
 //! A source while its glyphs are compiled and run one after another.
 ghost use Rattle.std.specs.Prelude.{◌≡◌, is_some, ℕ, List};
-ghost use Rattle.t1_font.specs.ToRun.{glyph_to_run, subr_stored};
+ghost use Rattle.t1_font.specs.ToRun.{glyph_to_run};
+ghost use Rattle.t1_font.specs.StoredSubrs.{subr_stored};
 ghost use Rattle.t1_font.specs.Names.{is_name_kept};
 
 use crate::subr_bodies::SubrBodies;
@@ -22,7 +23,8 @@ pub(crate) struct SourceBodies<'s, 'i> {
 }
 
 impl Bodies for SourceBodies<'_, '_> {
-    ghost use Rattle.t1_font.specs.ToRun.{glyph_to_run, subr_stored};
+    ghost use Rattle.t1_font.specs.ToRun.{glyph_to_run};
+    ghost use Rattle.t1_font.specs.StoredSubrs.{subr_stored};
 
     ghost subrs = { λ source n. subr_stored source.subrs.now n };
 

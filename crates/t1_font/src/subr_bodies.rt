@@ -6,7 +6,7 @@ ghost use Rattle.t1_frac.specs.Outcome.{Gives, reported_at};
 ghost use Rattle.t1_frac.specs.declared.fault.Place.TheVariants as places;
 ghost use Rattle.t1_code.specs.Words.{after_others, commands};
 ghost use Rattle.t1_font.specs.Bodies.{words_check};
-ghost use Rattle.t1_font.specs.ToRun.{subr_stored};
+ghost use Rattle.t1_font.specs.StoredSubrs.{subr_stored};
 
 use indexmap::IndexMap;
 use std::alloc::Global;
@@ -31,7 +31,7 @@ pub(crate) struct SubrBodies {
 
 impl Model for SubrBodies {
     ghost use Rattle.std.specs.Prelude.{length};
-    ghost use Rattle.t1_font.specs.ToRun.{StoredSubrs, AreRangesWithin};
+    ghost use Rattle.t1_font.specs.StoredSubrs.{StoredSubrs, AreRangesWithin};
 
     ghost Value = { StoredSubrs };
 

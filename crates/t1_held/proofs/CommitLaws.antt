@@ -13,8 +13,8 @@ use Rattle.t1_charstrings.specs.declared.entries.Charstrings.{Charstrings}
 use Rattle.t1_charstrings.specs.declared.edited.EditedEntries.{EditedEntries}
 use Rattle.t1_charstrings.specs.Batch.{gone_key, is_gone, AreEdits, AreFresh, AreGone}
 use Rattle.t1_charstrings.specs.Entries.{KeptCharstring, encrypted}
-use Rattle.t1_charstrings.specs.Kept.{kept_at}
-use Rattle.t1_cache.specs.Users.{key_of}
+use Rattle.t1_charstrings.specs.Kept.{charstring_at}
+use Rattle.t1_cache.specs.EditKeys.{key_of}
 use Rattle.t1_font.proofs.Keys.{key-same}
 use Rattle.t1_rerun.specs.declared.entry_change.EntryChange.{EntryChange}
 use Rattle.t1_rerun.specs.Settled.{changed_keys, AreDistinctKeys, HasBody}
@@ -26,19 +26,19 @@ use Rattle.t1_pairs.specs.declared.pairs.Pair.{Pair}
 use Rattle.t1_font.specs.Assembly.{file_check}
 use Rattle.t1_charstrings.specs.Kept.{AreEncrypted}
 use Rattle.t1_cache.specs.Edited.{stale, IsEditedAt}
-use Rattle.t1_cache.specs.Renewed.{Kept as KeptGlyph}
+use Rattle.t1_cache.specs.Recorded.{Kept as KeptGlyph}
 use Rattle.t1_cache.proofs.Distinct.{names_distinct}
 use Rattle.t1_rerun.specs.Opened.{runs_where}
 use Rattle.t1_rerun.specs.Renewing.{IsRunWhereStale}
 use Rattle.t1_rerun.proofs.ChangedBodies.{change-first}
-use Rattle.t1_held.specs.Batch.{AreBatchChanges}
+use Rattle.t1_held.specs.Drafting.{AreBatchChanges}
 use Rattle.t1_held.specs.Members.{HaveSameKeys}
 use Rattle.t1_held.proofs.Members.{same_stale, same_stale_glyphs}
 use Rattle.t1_held.specs.declared.held.Held.{Held}
 use Rattle.t1_held.specs.Entries.{fresh_in, fresh_one, gone_keys}
 use Rattle.t1_held.specs.declared.edits.Edits.{Edits}
 use Rattle.t1_held.specs.declared.edits.Edits.TheVariants as edits
-use Rattle.t1_charstrings.specs.Made.{made_of as made_in, source_of as source_in}
+use Rattle.t1_charstrings.specs.Made.{made_of as made_in, source_before_edits as source_in}
 use Rattle.t1_held.specs.Edits.{made_by, edits_made, edits_source, AreChanges, AreRight}
 use Rattle.t1_held.specs.Ready.{commit_runs}
 use Rattle.t1_held.specs.Held.{IsHeld}
@@ -46,14 +46,14 @@ use Rattle.t1_held.specs.Held.{IsHeld}
 -- ---- the charstrings of changes, one after another
 
 pub fresh-more : (front : ℕ) (changes : List EntryChange) (i : ℕ) (c : EntryChange) (old new : Charstrings) → i < length changes → c ≡ get_or changes i c
-    → ((k : Key) → option_or (fresh_in front (drop i changes) k) (kept_at old k) ≡ fresh_in front changes k)
-    → ((k : Key) → kept_at new k ≡ option_or (fresh_one front c k) (kept_at old k))
-    → (k : Key) → option_or (fresh_in front (drop (i + 1) changes) k) (kept_at new k) ≡ fresh_in front changes k
+    → ((k : Key) → option_or (fresh_in front (drop i changes) k) (charstring_at old k) ≡ fresh_in front changes k)
+    → ((k : Key) → charstring_at new k ≡ option_or (fresh_one front c k) (charstring_at old k))
+    → (k : Key) → option_or (fresh_in front (drop (i + 1) changes) k) (charstring_at new k) ≡ fresh_in front changes k
 fresh-more front changes i c old new inside is before put k =
     let rest = drop (i + 1) changes in
     ap (option_or (fresh_in front rest k)) (put k)
-    ∙ sym (or-assoc (fresh_in front rest k) (fresh_one front c k) (kept_at old k))
-    ∙ sym (ap (λ l. option_or (fresh_in front l k) (kept_at old k)) (change-first changes i c inside is))
+    ∙ sym (or-assoc (fresh_in front rest k) (fresh_one front c k) (charstring_at old k))
+    ∙ sym (ap (λ l. option_or (fresh_in front l k) (charstring_at old k)) (change-first changes i c inside is))
     ∙ before k
 
 -- ---- they are those of the edited source
@@ -85,7 +85,7 @@ module _ (front : ℕ) (made : SourceParts) (k : Key) where
     by false off rest = sym (or-none (fresh_in front changes k)) ∙ rest
 
 fresh-are : (front : ℕ) (made : SourceParts) (changes : List EntryChange) (fresh : Charstrings) → AreDistinctKeys (changed_keys changes)
-    → AllByRecursion (HasBody made) changes → ((k : Key) → kept_at fresh k ≡ fresh_in front changes k) → AreFresh front (changed_keys changes) made fresh
+    → AllByRecursion (HasBody made) changes → ((k : Key) → charstring_at fresh k ≡ fresh_in front changes k) → AreFresh front (changed_keys changes) made fresh
 fresh-are front made changes fresh distinct has are k =
     are k ∙ fresh-at front made k changes distinct has
 
@@ -141,7 +141,7 @@ gone-are made changes gone distinct has are k =
 
 pub edits_are : (s made : SourceParts) (changes : List EntryChange) (c : Charstrings) (entries : EditedEntries) → AreEncrypted s c → IsWellFormed made
     → bodies_check made.items ≡ Ok tt → IsEditedAt (changed_keys changes) s made → AreDistinctKeys (changed_keys changes) → AllByRecursion (HasBody made) changes
-    → ((k : Key) → kept_at entries.fresh k ≡ fresh_in (lead s) changes k) → map gone_key entries.gone.items ≡ gone_keys changes → AreEdits s made c entries
+    → ((k : Key) → charstring_at entries.fresh k ≡ fresh_in (lead s) changes k) → map gone_key entries.gone.items ≡ gone_keys changes → AreEdits s made c entries
 edits_are s made changes c entries kept well sound edited distinct has fresh gone = record {
   keys = changed_keys changes;
   edit = record { kept = kept; well = well; sound = sound; same = edited.bodies };

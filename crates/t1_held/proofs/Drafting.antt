@@ -17,7 +17,8 @@ use Rattle.t1_run.specs.Footprint.{Includes, SameAt}
 use Rattle.t1_run.specs.Touched.{is_key_of}
 use Rattle.t1_font.specs.Bodies.{bodies}
 use Rattle.t1_font.specs.Glyphs.{glyph_names}
-use Rattle.t1_cache.specs.Edited.{named, IsEditedAt}
+use Rattle.t1_cache.specs.Edited.{IsEditedAt}
+use Rattle.t1_cache.specs.EditKeys.{named}
 use Rattle.t1_cache.proofs.Distinct.{names_distinct}
 use Rattle.t1_cache.proofs.EditedNames.{names_edited}
 use Rattle.t1_cache.proofs.Edits.{edits_named}
@@ -25,7 +26,8 @@ use Rattle.t1_cache.proofs.Turns.{turns}
 use Rattle.t1_rerun.specs.Renewing.{entry_key}
 use Rattle.t1_rerun.proofs.Entries.{key-named}
 use Rattle.t1_held.specs.declared.batch.entries.EditedEntry.{EditedEntry}
-use Rattle.t1_held.specs.Batch.{adds, edited_entries, entry_edit, keys, was_added, Draft, EntryEdit, IsDraftOf, IsEditedBy, IsSoundBut}
+use Rattle.t1_held.specs.Batch.{adds, edited_entries, entry_edit, keys, Draft, EntryEdit}
+use Rattle.t1_held.specs.Drafting.{was_added, IsDraftOf, IsEditedBy, IsSoundBut}
 use Rattle.t1_held.proofs.Ordering.{begins, edit-order, order-as}
 use Rattle.t1_held.proofs.Sounding.{all-sound, edits_sound}
 

@@ -22,7 +22,8 @@ use Rattle.t1_source.proofs.WellFormedSourceLaws.{source_well_formed}
 use Rattle.t1_run.specs.Run.{Subr, Glyph, key_eq}
 use Rattle.t1_font.specs.Assembly.{file_check}
 use Rattle.t1_font.specs.Glyphs.{glyph_names}
-use Rattle.t1_font.specs.Runs.{counted, Counts}
+use Rattle.t1_font.specs.Runs.{Counts}
+use Rattle.t1_font.specs.RunCounts.{counted}
 use Rattle.t1_font.specs.SourceChecks.{source_check}
 use Rattle.t1_charstrings.specs.declared.entries.Charstrings.{Charstrings}
 use Rattle.t1_charstrings.specs.Changed.{AreSameCharstrings}
@@ -31,7 +32,8 @@ use Rattle.t1_charstrings.specs.Kept.{AreEncrypted, Encrypt}
 use Rattle.t1_font.specs.Lengths.{IsPrivateLen}
 use Rattle.t1_cache.specs.declared.records.Records.{Records}
 use Rattle.t1_charstrings.specs.Made.{IsPreparedByEdits}
-use Rattle.t1_cache.specs.Edited.{named, IsEditedAt}
+use Rattle.t1_cache.specs.Edited.{IsEditedAt}
+use Rattle.t1_cache.specs.EditKeys.{named}
 use Rattle.t1_cache.proofs.Distinct.{names_distinct}
 use Rattle.t1_rerun.specs.declared.entry_change.EntryChange.{EntryChange}
 use Rattle.t1_rerun.specs.EntryChanges.{IsChanged, IsMadeByEdit}

@@ -13,7 +13,8 @@ use Rattle.t1_cache.specs.Edited.{names_after}
 use Rattle.t1_cache.specs.Laws.{AreDistinct}
 use Rattle.t1_font.proofs.Lookups.{bytes_tell}
 use Rattle.t1_cache.proofs.Filtering.{filter-as, filter-all, filter-both, filter-none, has-passing}
-use Rattle.t1_held.specs.Batch.{edited_entries, was_added}
+use Rattle.t1_held.specs.Batch.{edited_entries}
+use Rattle.t1_held.specs.Drafting.{was_added}
 
 -- names after edits: those of before that are still there and weren't gone at any time, in their order, then the others
 abbrev pub InOrder : (List ℕ → Bool) → List (List ℕ) → List (List ℕ) → Type 0

@@ -22,7 +22,7 @@ use Rattle.t1_font.specs.Bodies.{bodies, subr_among, glyph_among}
 use Rattle.t1_font.specs.Glyphs.{glyph_names}
 use Rattle.t1_cache.specs.declared.records.Named.{Named}
 use Rattle.t1_cache.specs.declared.records.Named.TheVariants as named
-use Rattle.t1_cache.specs.Users.{key_of}
+use Rattle.t1_cache.specs.EditKeys.{key_of}
 use Rattle.t1_font.proofs.Keys.{key-itself, key-same}
 use Rattle.t1_cache.proofs.Lists.{all-weaken}
 use Rattle.t1_rerun.specs.declared.entry_change.EntryChange.{EntryChange}

@@ -27,7 +27,7 @@ use Rattle.t1_font.specs.Glyphs.{glyph_names}
 use Rattle.t1_cache.specs.declared.records.Named.{Named}
 use Rattle.t1_cache.specs.declared.records.Named.TheVariants as named
 use Rattle.t1_cache.specs.Laws.{AreDistinct}
-use Rattle.t1_cache.specs.Users.{key_of}
+use Rattle.t1_cache.specs.EditKeys.{key_of}
 use Rattle.t1_font.proofs.Keys.{key-same, included}
 use Rattle.t1_cache.proofs.Lists.{all-weaken}
 use Rattle.t1_font.proofs.Lookups.{bytes_tell}
@@ -36,7 +36,8 @@ use Rattle.t1_rerun.specs.Right.{has_glyph}
 use Rattle.t1_rerun.specs.Settled.{changed_keys, last_glyph, last_glyphs, AreDistinctKeys}
 use Rattle.t1_rerun.specs.Steps.{entry_change}
 use Rattle.t1_held.specs.declared.batch.entries.EditedEntry.{EditedEntry}
-use Rattle.t1_held.specs.Batch.{entry_edit, keys, IsSoundBut}
+use Rattle.t1_held.specs.Batch.{entry_edit, keys}
+use Rattle.t1_held.specs.Drafting.{IsSoundBut}
 use Rattle.t1_held.specs.Passing.{all_removed, items_put, put_of, removed_at, without_key, Sought}
 use Rattle.t1_held.proofs.Gathering.{in_front, Outcome}
 use Rattle.t1_held.proofs.Passing.{always, has_at, is_at, itself, keys-any, mark_is, Met, Passes, tally, without-at, gone}

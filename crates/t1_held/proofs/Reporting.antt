@@ -18,7 +18,7 @@ use Rattle.t1_font.specs.Assembly.{file_check}
 use Rattle.t1_font.specs.Bodies.{bodies_check}
 use Rattle.t1_font.specs.Glyphs.{glyph_names}
 use Rattle.t1_font.proofs.LengthLaws.{body_fault_reported}
-use Rattle.t1_cache.specs.Users.{key_of}
+use Rattle.t1_cache.specs.EditKeys.{key_of}
 use Rattle.t1_cache.proofs.Distinct.{names_distinct}
 use Rattle.t1_cache.proofs.Lists.{all-weaken}
 use Rattle.t1_rerun.specs.declared.entry_change.EntryChange.{EntryChange}
@@ -26,7 +26,8 @@ use Rattle.t1_rerun.specs.Right.{has_glyph, IsInOrder}
 use Rattle.t1_rerun.specs.Settled.{changed_keys, last_glyphs, was_moved, AreDistinctKeys, HasBody}
 use Rattle.t1_cache.proofs.Filtering.{among-passing, filter-as, passed}
 use Rattle.t1_held.specs.declared.batch.entries.EditedEntry.{EditedEntry}
-use Rattle.t1_held.specs.Batch.{entry_edit, keys, was_added, AreBatchChanges, EntryEdit, IsEditedBy, IsSoundBut}
+use Rattle.t1_held.specs.Batch.{entry_edit, keys, EntryEdit}
+use Rattle.t1_held.specs.Drafting.{was_added, AreBatchChanges, IsEditedBy, IsSoundBut}
 use Rattle.t1_held.specs.Passing.{all_marked, all_removed, after_items, changes_by, items_put, none_sought, Sought}
 use Rattle.t1_held.proofs.Gathering.{Outcome}
 use Rattle.t1_held.proofs.Members.{same_edited}

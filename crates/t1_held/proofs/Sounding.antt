@@ -19,11 +19,11 @@ use Rattle.t1_source.proofs.ItemPlaceLaws.{position_first, set_there, removed_th
 use Rattle.t1_run.specs.Run.{Key, Subr, Glyph}
 use Rattle.t1_run.proofs.Outlines.{in_first, in_second}
 use Rattle.t1_font.specs.Bodies.{bodies_check, body_check}
-use Rattle.t1_cache.specs.Edited.{named, subr_key}
+use Rattle.t1_cache.specs.EditKeys.{named, subr_key}
 use Rattle.t1_cache.specs.Laws.{IsKeyAmong}
 use Rattle.t1_cache.proofs.Accepted.{glyph_at, last_glyph, last_subr, new_glyph, new_subr, subr_at, added_glyph-made, added_subr-made, encoded-made, lead-made, removed_glyph-made, removed_subr-made, replaced_glyph-made, replaced_subr-made, unencoded-made, IsIn, IsLeadMade, IsNumbered, IsOut, IsPut, LeadIn, LeadPut}
 use Rattle.t1_cache.proofs.Edits.{key-of}
-use Rattle.t1_held.specs.Batch.{IsSoundBut}
+use Rattle.t1_held.specs.Drafting.{IsSoundBut}
 
 -- ---- bodies without a fault
 

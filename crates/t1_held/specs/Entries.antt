@@ -3,7 +3,7 @@ use Rattle.std.specs.Prelude.{ℕ, List, [], ◌∷◌, filter, is_none, Option,
 use Rattle.std.specs.Option.{option_map, option_or}
 use Rattle.t1_run.specs.Run.{Key, key_eq}
 use Rattle.t1_charstrings.specs.Entries.{KeptCharstring, encrypted}
-use Rattle.t1_cache.specs.Users.{key_of}
+use Rattle.t1_cache.specs.EditKeys.{key_of}
 use Rattle.t1_rerun.specs.declared.entry_change.EntryChange.{EntryChange}
 use Rattle.t1_rerun.specs.Settled.{changed_keys}
 

@@ -15,7 +15,7 @@ use Rattle.t1_parts.specs.declared.item.Item.TheVariants as items
 use Rattle.t1_run.specs.Run.{Key, Subr, Glyph, key_eq}
 use Rattle.t1_cache.specs.declared.records.Named.{Named}
 use Rattle.t1_cache.specs.declared.records.Named.TheVariants as named
-use Rattle.t1_cache.specs.Users.{key_of}
+use Rattle.t1_cache.specs.EditKeys.{key_of}
 use Rattle.t1_rerun.specs.declared.entry_change.EntryChange.{EntryChange}
 use Rattle.t1_rerun.specs.Steps.{entry_change}
 use Rattle.t1_held.specs.declared.batch.entries.EditedEntry.{EditedEntry}

@@ -4,8 +4,8 @@ ghost use Rattle.std.specs.Option.{option_or};
 ghost use Rattle.t1_parts.specs.LenIV.{lead};
 ghost use Rattle.t1_run.specs.Run.{Key};
 ghost use Rattle.t1_charstrings.specs.Batch.{gone_key};
-ghost use Rattle.t1_charstrings.specs.Kept.{kept_at};
-ghost use Rattle.t1_cache.specs.Users.{key_of};
+ghost use Rattle.t1_charstrings.specs.Kept.{charstring_at};
+ghost use Rattle.t1_cache.specs.EditKeys.{key_of};
 ghost use Rattle.t1_held.specs.Entries.{fresh_in, fresh_one, gone_keys};
 
 use std::alloc::{AllocError, Global};
@@ -25,7 +25,8 @@ fn put_fresh(
 ) -> Result<(), AllocError>
     ensures { OnOk result
         ((k : Key)
-        → kept_at fresh.new k ≡ option_or (fresh_one lead change.now k) (kept_at fresh.old k)) }
+        → charstring_at fresh.new k
+        ≡ option_or (fresh_one lead change.now k) (charstring_at fresh.old k)) }
 {
     let Some(body) = &change.body else {
         return Ok(());
@@ -42,7 +43,8 @@ fn fresh_charstrings(
     lead: u8,
     changes: &[EntryChange],
 ) -> Result<Charstrings, AllocError>
-    ensures { IfOk result (λ fresh. (k : Key) → kept_at fresh k ≡ fresh_in lead changes.now k) }
+    ensures { IfOk result
+        (λ fresh. (k : Key) → charstring_at fresh k ≡ fresh_in lead changes.now k) }
 {
     let mut fresh = no_charstrings(alloc);
     for change in changes {
@@ -82,7 +84,7 @@ fn edited_entries(
     changes: &[EntryChange],
 ) -> Result<EditedEntries, AllocError>
     ensures fresh { IfOk result
-        (λ entries. (k : Key) → kept_at entries.fresh k ≡ fresh_in lead changes.now k) }
+        (λ entries. (k : Key) → charstring_at entries.fresh k ≡ fresh_in lead changes.now k) }
     ensures gone { IfOk result
         (λ entries. map gone_key entries.gone.items ≡ gone_keys changes.now) }
 {
@@ -101,7 +103,7 @@ pub(crate) fn entries_of(
 ) -> Result<EditedEntries, AllocError>
     ensures fresh { IfOk result
         (λ entries.
-        (k : Key) → kept_at entries.fresh k ≡ fresh_in (lead source.now) changes.now k) }
+        (k : Key) → charstring_at entries.fresh k ≡ fresh_in (lead source.now) changes.now k) }
     ensures gone { IfOk result
         (λ entries. map gone_key entries.gone.items ≡ gone_keys changes.now) }
 {

@@ -7,7 +7,7 @@ ghost use Rattle.t1_parts.specs.SourceParts.{SourceParts};
 ghost use Rattle.t1_run.specs.Run.{Key};
 ghost use Rattle.t1_font.specs.Runs.{Counts};
 ghost use Rattle.t1_font.specs.SourceChecks.{measured_source, source_check};
-ghost use Rattle.t1_cache.specs.Renewed.{kept_of};
+ghost use Rattle.t1_cache.specs.Recorded.{kept_of};
 ghost use Rattle.t1_rerun.specs.Opened.{opening_runs};
 ghost use Rattle.t1_rerun.specs.Renewing.{IsRunWhereStale};
 ghost use Rattle.t1_held.specs.Held.{IsHeld};

@@ -7,7 +7,7 @@ ghost use Rattle.t1_font.specs.Runs.{Counts};
 ghost use Rattle.t1_font.specs.SourceChecks.{source_check};
 ghost use Rattle.t1_charstrings.specs.Made.{made_of as made_in};
 ghost use Rattle.t1_cache.specs.Edited.{stale};
-ghost use Rattle.t1_cache.specs.Renewed.{kept_of};
+ghost use Rattle.t1_cache.specs.Recorded.{kept_of};
 ghost use Rattle.t1_rerun.specs.Changing.{AreChangesOf, IsReadyFor, MayBePrepared};
 ghost use Rattle.t1_rerun.specs.Settled.{changed_keys, AreAsBefore};
 ghost use Rattle.t1_held.specs.Edits.{keys_of, edits_made, edits_source, AreRight};

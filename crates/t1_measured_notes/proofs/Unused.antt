@@ -2,7 +2,8 @@
 use Rattle.std.proofs.Common.{◌≡◌, ℕ, Bool, false, List, [], ◌∷◌, ◌++◌, refl, ap}
 use Rattle.t1_notes.specs.declared.line.Line.{Line}
 use Rattle.t1_notes.specs.Told.{told}
-use Rattle.t1_measured_notes.specs.MeasuredNotes.{follows_unused, unused_among, unused_by_line, unused_note}
+use Rattle.t1_measured_notes.specs.MeasuredNotes.{follows_unused, unused_among, unused_note}
+use Rattle.t1_measured_notes.specs.UnusedByLine.{unused_by_line}
 
 unused_after : (entered : ℕ → Bool) (before ls : List Line)
     → told (λ before l. unused_note entered (follows_unused entered before) l) before ls ≡ unused_by_line entered (follows_unused entered before) ls

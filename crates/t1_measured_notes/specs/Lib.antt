@@ -1,1 +1,2 @@
 pub mod MeasuredNotes
+pub mod UnusedByLine

@@ -20,10 +20,10 @@ use Rattle.t1_notes.specs.declared.sections.Section.TheVariants.{Subrs, Glyphs}
 use Rattle.t1_notes.specs.BodyWords.{note_where}
 use Rattle.t1_notes.specs.GlyphNames.{opened_name}
 use Rattle.t1_notes.specs.Heads.{heads}
-use Rattle.t1_notes.specs.LineSections.{is_section}
+use Rattle.t1_notes.specs.LineSections.{is_line_of_section}
 use Rattle.t1_notes.specs.Merged.{merged}
 use Rattle.t1_notes.specs.Notes.{noted, notes_of, subr_need}
-use Rattle.t1_notes.specs.NumberedLines.{before, past, note_on, numbered}
+use Rattle.t1_notes.specs.NumberedLines.{before, lines_past, note_on, numbered}
 use Rattle.t1_notes.specs.Told.{told}
 
 -- profile, notes: whether words are these
@@ -70,14 +70,9 @@ unused_note entered follows l = note_where (is_unused entered l.text && not foll
 abbrev pub unused_among : (ℕ → Bool) → List Line → List Note
 unused_among entered heads = told (λ before l. unused_note entered (follows_unused entered before) l) [] heads
 
--- word, notes: the same notes, by whether the line before opens such a Subr
-abbrev pub unused_by_line : (ℕ → Bool) → Bool → List Line → List Note
-unused_by_line entered follows [] = []
-unused_by_line entered follows (l ∷ ls) = unused_note entered follows l ++ unused_by_line entered (is_unused entered l.text) ls
-
 -- profile, notes: such lines among those of the section of the Subrs
 abbrev pub unused_notes : (ℕ → Bool) → List Line → List Note
-unused_notes entered ls = unused_among entered (heads Subrs (past (is_section Subrs) ls))
+unused_notes entered ls = unused_among entered (heads Subrs (lines_past (is_line_of_section Subrs) ls))
 
 -- profile, notes: the notes on the lines before the glyphs, by what is measured
 abbrev pub font_notes : BBox → (ℕ → Bool) → List Line → List Note
@@ -97,18 +92,18 @@ abbrev pub is_wide : List GlyphMetrics → List ℕ → Bool
 is_wide glyphs name = list_any (λ g. is_wide_box g.bbox && bytes_eq name g.name) glyphs
 
 -- profile, notes: whether a name is there and passes a test
-abbrev pub is_named : (List ℕ → Bool) → Option (List ℕ) → Bool
-is_named test None = false
-is_named test (Some name) = test name
+abbrev pub is_name_that : (List ℕ → Bool) → Option (List ℕ) → Bool
+is_name_that test None = false
+is_name_that test (Some name) = test name
 
 -- profile, notes: the lines of the section of the glyphs that open such a glyph
 abbrev pub wide_notes : (List ℕ → Bool) → List Line → List Note
-wide_notes wide ls = noted WideGlyph (λ l. is_named wide (opened_name l)) (heads Glyphs (past (is_section Glyphs) ls))
+wide_notes wide ls = noted WideGlyph (λ l. is_name_that wide (opened_name l)) (heads Glyphs (lines_past (is_line_of_section Glyphs) ls))
 
 -- profile, notes: the notes on the lines of a font, where it has no fault
 abbrev pub sound_notes : List Line → Result MeasuredFont Fault → List Note
 sound_notes ls (Ok font) =
-    font_notes font.font_box (is_entered font.metrics) (before (is_section Glyphs) ls) ++ wide_notes (is_wide font.metrics) ls
+    font_notes font.font_box (is_entered font.metrics) (before (is_line_of_section Glyphs) ls) ++ wide_notes (is_wide font.metrics) ls
 sound_notes ls (Err fault) = []
 
 -- profile, notes: the notes on a text that stand on runs of its glyphs
@@ -118,7 +113,3 @@ measured_notes text = sound_notes (numbered 1 (lines text)) (reads text >>= λ s
 -- profile, notes: all notes on a text, in the order of their places
 unfoldable pub all_notes : List ℕ → List Note
 all_notes text = merged (notes_of text) (measured_notes text)
-
--- word, notes: whether a number is among some
-abbrev pub has_number : List ℕ → ℕ → Bool
-has_number numbers n = list_any (nat_eq n) numbers

@@ -4,10 +4,11 @@ ghost use Rattle.std.specs.Prelude.{◌≡◌, ◌++◌, IfOk, OnOk};
 ghost use Rattle.t1_frac.specs.Outcome.{◌>>=◌ as and_then};
 ghost use Rattle.t1_parts.specs.Reading.{reads};
 ghost use Rattle.t1_font.specs.SourceChecks.{measured_source};
-ghost use Rattle.t1_notes.specs.LineSections.{is_section};
+ghost use Rattle.t1_notes.specs.LineSections.{is_line_of_section};
 ghost use Rattle.t1_notes.specs.NumberedLines.{before};
 ghost use Rattle.t1_notes.specs.declared.sections.Section.TheVariants.{Glyphs};
-ghost use Rattle.t1_measured_notes.specs.MeasuredNotes.{has_number, is_entered, font_notes};
+ghost use Rattle.t1_measured_notes.specs.MeasuredNotes.{is_entered, font_notes};
+ghost use Rattle.t1_measured_notes.specs.UnusedByLine.{has_number};
 ghost use Rattle.t1_measured_notes.specs.MeasuredNotes.{is_wide, wide_notes, sound_notes};
 ghost use Rattle.t1_measured_notes.specs.MeasuredNotes.{measured_notes, all_notes};
 
@@ -77,9 +78,12 @@ fn push_sound(
     font: &MeasuredGlyphs,
     lines: &[Line],
 ) -> Result<(), AllocError>
-    ensures { OnOk result (notes.new.items ≡ notes.old.items ++ (font_notes font.now.font_box
-        (is_entered font.now.metrics) (before (is_section Glyphs) lines.now) ++ wide_notes (is_wide
-        font.now.metrics) lines.now)) }
+    ensures { OnOk result
+        (notes.new.items
+        ≡ notes.old.items
+        ++ (font_notes font.now.font_box (is_entered font.now.metrics)
+        (before (is_line_of_section Glyphs) lines.now)
+        ++ wide_notes (is_wide font.now.metrics) lines.now)) }
 {
     let front = lines.split_at(section_place(Section::Glyphs, lines)).0;
     push_measured(alloc, notes, font, front)?;

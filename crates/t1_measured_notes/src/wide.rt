@@ -3,10 +3,11 @@
 ghost use Rattle.std.specs.Prelude.{◌≡◌, ◌++◌, ◌||◌, ◌&&◌, ℕ, List, IfOk, OnOk};
 ghost use Rattle.std.specs.Str.{bytes_eq};
 ghost use Rattle.t1_notes.specs.declared.note.NoteKind.TheVariants.{WideGlyph};
-ghost use Rattle.t1_notes.specs.GlyphNames.{has_name, opened_name};
+ghost use Rattle.t1_notes.specs.GlyphNames.{opened_name};
+ghost use Rattle.t1_notes.specs.Tables.{is_among_names};
 ghost use Rattle.t1_notes.specs.Notes.{noted};
 ghost use Rattle.t1_measured_notes.specs.MeasuredNotes.{is_wide_side, is_wide_box, is_wide};
-ghost use Rattle.t1_measured_notes.specs.MeasuredNotes.{is_named, wide_notes};
+ghost use Rattle.t1_measured_notes.specs.MeasuredNotes.{is_name_that, wide_notes};
 
 use indexmap::IndexSet;
 use std::alloc::{AllocError, Global};
@@ -45,8 +46,8 @@ fn is_wide_box(bounds: Option<BBox>) -> bool
 fn put_wide<'g>(names: &mut IndexSet<&'g [u8]>, glyph: &'g GlyphMetrics) -> Result<(), AllocError>
     ensures { OnOk result
         ((name : List ℕ)
-        → has_name names.new.keys name
-        ≡ (has_name names.old.keys name ||
+        → is_among_names names.new.keys name
+        ≡ (is_among_names names.old.keys name ||
         (is_wide_box glyph.entry.now.bbox && bytes_eq name glyph.entry.now.name))) }
 {
     if is_wide_box(glyph.bbox) {
@@ -61,8 +62,8 @@ pub(crate) fn wide_names<'g>(
     alloc: Global,
     glyphs: &'g [GlyphMetrics],
 ) -> Result<IndexSet<&'g [u8]>, AllocError>
-    ensures { IfOk result (λ names. (name : List ℕ) → has_name names.keys name ≡ is_wide glyphs.now
-        name) }
+    ensures { IfOk result
+        (λ names. (name : List ℕ) → is_among_names names.keys name ≡ is_wide glyphs.now name) }
 {
     let mut names = IndexSet::new(alloc);
     for glyph in glyphs {
@@ -73,7 +74,7 @@ pub(crate) fn wide_names<'g>(
 
 /// Whether a line opens a glyph of one of these names.
 fn opens_wide(names: &IndexSet<&[u8]>, line: &[u8]) -> bool
-    ensures { result ≡ is_named (has_name names.now.keys) (opened_name line.now) }
+    ensures { result ≡ is_name_that (is_among_names names.now.keys) (opened_name line.now) }
 {
     match opened_name(line) {
         Some(name) => is_among(names, name),
@@ -88,7 +89,7 @@ fn push_heads(
     heads: &[Line],
 ) -> Result<(), AllocError>
     ensures { OnOk result (notes.new.items ≡ notes.old.items ++ noted WideGlyph
-        (λ l. is_named (has_name names.now.keys) (opened_name l)) heads.now) }
+        (λ l. is_name_that (is_among_names names.now.keys) (opened_name l)) heads.now) }
 {
     for line in heads {
         if opens_wide(names, line.bytes()) {
@@ -106,7 +107,7 @@ pub(crate) fn push_wide(
     names: &IndexSet<&[u8]>,
     lines: &[Line],
 ) -> Result<(), AllocError>
-    ensures { OnOk result (notes.new.items ≡ notes.old.items ++ wide_notes (has_name
+    ensures { OnOk result (notes.new.items ≡ notes.old.items ++ wide_notes (is_among_names
         names.now.keys) lines.now) }
 {
     let later = past(lines, section_place(Section::Glyphs, lines));

@@ -18,18 +18,20 @@ use Rattle.t1_notes.specs.declared.note.Note.{Note}
 use Rattle.t1_notes.specs.declared.sections.Section.{Section}
 use Rattle.t1_notes.specs.BodyWords.{numbers_before, is_open, ends_path_at, is_past, nearest_is_below_zero, command_notes, token_notes, body_notes}
 use Rattle.t1_notes.specs.CommandWords.{passes}
-use Rattle.t1_notes.specs.Heads.{head_of, heads, heads_by_line, is_entry_open}
-use Rattle.t1_notes.specs.Kept.{kept_of, kept_after, kept_notes, kept_through, notes_by_line, notes_by_place, one_more, open_after}
-use Rattle.t1_notes.specs.Notes.{follows_stray, stray_note, stray_notes, strays_by_line}
+use Rattle.t1_notes.specs.Heads.{head_line_of, heads, is_entry_open}
+use Rattle.t1_notes.specs.HeadsByLine.{heads_by_line}
+use Rattle.t1_notes.specs.Kept.{kept_of_tokens, kept_after_token, kept_notes, kept_through, notes_by_line, notes_by_place, one_number_more, open_after}
+use Rattle.t1_notes.specs.Notes.{follows_stray, stray_note, stray_notes}
+use Rattle.t1_notes.specs.StraysByLine.{strays_by_line}
 use Rattle.t1_notes.specs.PlacedTokens.{PlacedToken, placed_token, placed_tokens}
 use Rattle.t1_notes.specs.Told.{told}
 
 -- ---- the lines outside entries
 
 heads_after : (section : Section) (before ls : List Line)
-    → told (λ before l. head_of (is_entry_open section before) l) before ls ≡ heads_by_line section (is_entry_open section before) ls
+    → told (λ before l. head_line_of (is_entry_open section before) l) before ls ≡ heads_by_line section (is_entry_open section before) ls
 heads_after section before [] = refl
-heads_after section before (l ∷ ls) = ap (λ more. head_of (is_entry_open section before) l ++ more) (heads_after section (l ∷ before) ls)
+heads_after section before (l ∷ ls) = ap (λ more. head_line_of (is_entry_open section before) l ++ more) (heads_after section (l ∷ before) ls)
 
 pub heads_by : (section : Section) (ls : List Line) → heads section ls ≡ heads_by_line section false ls
 heads_by section ls = heads_after section [] ls
@@ -56,10 +58,10 @@ other_next before t e =
     let none : take_while (λ u. is_number_word u.token) (t ∷ before) ≡ [] = take_while-cons (λ u. is_number_word u.token) t before ∙ rw e refl in
     ap (map (λ u. u.token)) none
 
-more_capped : (n : ℕ) → min 7 (n + 1) ≡ one_more (min 7 n)
+more_capped : (n : ℕ) → min 7 (n + 1) ≡ one_number_more (min 7 n)
 more_capped n = grind (arith, nat_tests)
 
-length_capped : (word : List ℕ) (words : List (List ℕ)) → min 7 (length (word ∷ words)) ≡ one_more (min 7 (length words))
+length_capped : (word : List ℕ) (words : List (List ℕ)) → min 7 (length (word ∷ words)) ≡ one_number_more (min 7 (length words))
 length_capped word words = ap (min 7) (sym (add-one (length words))) ∙ more_capped (length words)
 
 -- what is drawn since an element that ends a path, after one more
@@ -81,7 +83,7 @@ same_kept : (n m : ℕ) (a b c d p q : Bool) → n ≡ m → a ≡ b → c ≡ d
 same_kept n m a b c d p q en ea ec ep =
     ap (λ x. made x a c p) en ∙ ap (λ x. made m x c p) ea ∙ ap (λ x. made m b x p) ec ∙ ap (λ x. made m b d x) ep
 
-kept_next : (before : List PlacedToken) (t : PlacedToken) → kept_of (t ∷ before) ≡ kept_after (kept_of before) t.token (operator_named t.token)
+kept_next : (before : List PlacedToken) (t : PlacedToken) → kept_of_tokens (t ∷ before) ≡ kept_after_token (kept_of_tokens before) t.token (operator_named t.token)
 kept_next before t =
     elim (cases_Bool (is_number_word t.token)) [
       | inl number ↦
@@ -137,28 +139,28 @@ command_same : (t : PlacedToken) (numbers : List (List ℕ)) (path : Bool) (comm
 command_same t numbers path None = refl
 command_same t numbers path (Some c) = rw (fewer_capped (takes c) (length numbers) (few c)) refl
 
-notes_same : (before : List PlacedToken) (t : PlacedToken) → token_notes before t ≡ kept_notes t.line t.column (kept_of before) (operator_named t.token)
+notes_same : (before : List PlacedToken) (t : PlacedToken) → token_notes before t ≡ kept_notes t.line t.column (kept_of_tokens before) (operator_named t.token)
 notes_same before t = command_same t (numbers_before before) (is_open before) (operator_named t.token)
 
 -- the tokens of a line, before those of later ones
 line_told : (number : ℕ) (before : List PlacedToken) (ps : List (ℕ × List ℕ)) (rest : List PlacedToken) (more : List Note)
-    → ((b : List PlacedToken) → kept_of b ≡ kept_through (kept_of before) ps → told token_notes b rest ≡ more)
-    → told token_notes before (map (placed_token number) ps ++ rest) ≡ notes_by_place number (kept_of before) ps ++ more
+    → ((b : List PlacedToken) → kept_of_tokens b ≡ kept_through (kept_of_tokens before) ps → told token_notes b rest ≡ more)
+    → told token_notes before (map (placed_token number) ps ++ rest) ≡ notes_by_place number (kept_of_tokens before) ps ++ more
 line_told number before [] rest more h = h before refl
 line_told number before (p ∷ ps) rest more h =
     let t = placed_token number p in
     let next = kept_next before t in
     let later = line_told number (t ∷ before) ps rest more (λ b e. h b (e ∙ ap (λ k. kept_through k ps) next)) in
-    let first = kept_notes number (p.0 + 1) (kept_of before) (operator_named p.1) in
+    let first = kept_notes number (p.0 + 1) (kept_of_tokens before) (operator_named p.1) in
     ap (λ ns. ns ++ told token_notes (t ∷ before) (map (placed_token number) ps ++ rest)) (notes_same before t)
     ∙ ap (λ ns. first ++ ns) (later ∙ ap (λ k. notes_by_place number k ps ++ more) next)
-    ∙ sym (append_assoc first (notes_by_place number (kept_after (kept_of before) p.1 (operator_named p.1)) ps) more)
+    ∙ sym (append_assoc first (notes_by_place number (kept_after_token (kept_of_tokens before) p.1 (operator_named p.1)) ps) more)
 
-lines_told : (before : List PlacedToken) (ls : List Line) → told token_notes before (placed_tokens ls) ≡ notes_by_line (kept_of before) ls
+lines_told : (before : List PlacedToken) (ls : List Line) → told token_notes before (placed_tokens ls) ≡ notes_by_line (kept_of_tokens before) ls
 lines_told before [] = refl
 lines_told before (l ∷ ls) =
-    line_told l.number before (places_from 0 l.text) (placed_tokens ls) (notes_by_line (kept_through (kept_of before) (places_from 0 l.text)) ls)
+    line_told l.number before (places_from 0 l.text) (placed_tokens ls) (notes_by_line (kept_through (kept_of_tokens before) (places_from 0 l.text)) ls)
     (λ b e. lines_told b ls ∙ ap (λ k. notes_by_line k ls) e)
 
-pub bodies_by_line : (ls : List Line) → body_notes ls ≡ notes_by_line (kept_of []) ls
+pub bodies_by_line : (ls : List Line) → body_notes ls ≡ notes_by_line (kept_of_tokens []) ls
 bodies_by_line ls = lines_told [] ls

@@ -1,6 +1,5 @@
 -- Commands by their words, as far as notes ask for them.
-use Rattle.std.specs.Prelude.{Bool, true, false, Option, Some, None, List, ℕ, map}
-use Rattle.std.specs.Borrow.{Bor}
+use Rattle.std.specs.Prelude.{Bool, true, false, Option, Some, None}
 use Rattle.t1_code.specs.declared.command.Command.{Command}
 use Rattle.t1_code.specs.declared.command.Command.TheVariants.{Num, CallSubr, Return, Div, CallOtherSubr, Pop, RMoveTo, HMoveTo, VMoveTo, EndChar, ClosePath, Hsbw}
 
@@ -39,7 +38,3 @@ ends_path c = wants_closed c
 abbrev pub passes : (Command → Bool) → Option Command → Bool
 passes test None = false
 passes test (Some c) = test c
-
--- word, notes: a table of the code, as definitions have it
-abbrev pub rows_of : List (Bor (List ℕ) × Command) → List (List ℕ × Command)
-rows_of table = map (λ row. (row.0.now, row.1)) table

@@ -1,8 +1,6 @@
 -- The names of the glyphs that lines open.
 use Rattle.std.specs.Prelude.{ℕ, Bool, Option, Some, None, List}
-use Rattle.std.specs.Borrow.{Bor}
 use Rattle.std.specs.List.{list_any}
-use Rattle.std.specs.Str.{bytes_eq}
 use Rattle.t1_parts.specs.Entries.{opens_glyph}
 use Rattle.t1_text.specs.Names.{name_of_token}
 use Rattle.t1_text.specs.Tokens.{is_token, tokens}
@@ -18,9 +16,5 @@ abbrev pub opened_name : List ℕ → Option (List ℕ)
 opened_name l = name_of (opens_glyph (tokens l))
 
 -- profile, notes: whether one of the lines opens the glyph of this name
-abbrev pub has_glyph : List Line → List ℕ → Bool
-has_glyph heads glyph = list_any (λ l. is_token glyph (opened_name l.text)) heads
-
--- word, notes: whether this name is among some
-abbrev pub has_name : List (Bor (List ℕ)) → List ℕ → Bool
-has_name names glyph = list_any (λ name. bytes_eq glyph name.now) names
+abbrev pub has_line_of_glyph : List Line → List ℕ → Bool
+has_line_of_glyph heads glyph = list_any (λ l. is_token glyph (opened_name l.text)) heads

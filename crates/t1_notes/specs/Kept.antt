@@ -16,8 +16,8 @@ use Rattle.t1_notes.specs.CommandWords.{clears, is_hsbw, wants_closed, ends_path
 use Rattle.t1_notes.specs.PlacedTokens.{PlacedToken}
 
 -- word, notes: what is kept of some tokens, the last one first; seven numbers are more than a command takes
-abbrev pub kept_of : List PlacedToken → Kept
-kept_of before =
+abbrev pub kept_of_tokens : List PlacedToken → Kept
+kept_of_tokens before =
     record {
       numbers = min 7 (length (numbers_before before));
       has_wide = list_any (is_past 16000) (numbers_before before);
@@ -26,18 +26,18 @@ kept_of before =
     }
 
 -- word, notes: one number more
-abbrev pub one_more : ℕ → ℕ
-one_more numbers = if nat_lt numbers 7 then numbers + 1 else 7
+abbrev pub one_number_more : ℕ → ℕ
+one_number_more numbers = if nat_lt numbers 7 then numbers + 1 else 7
 
 -- word, notes: whether a path is open after a token
 abbrev pub open_after : Bool → List ℕ → Option Command → Bool
 open_after path token command = if is_brace_token token || passes ends_path command then false else passes draws command || path
 
 -- word, notes: what is kept after a token
-abbrev pub kept_after : Kept → List ℕ → Option Command → Kept
-kept_after kept token command =
+abbrev pub kept_after_token : Kept → List ℕ → Option Command → Kept
+kept_after_token kept token command =
     record {
-      numbers = if is_number_word token then one_more kept.numbers else 0;
+      numbers = if is_number_word token then one_number_more kept.numbers else 0;
       has_wide = is_number_word token && (is_past 16000 token || kept.has_wide);
       is_negative = is_number_word token && is_below_zero token;
       is_open = open_after kept.is_open token command;
@@ -54,7 +54,7 @@ kept_notes line column kept (Some c) =
 
 -- word, notes: what is kept after the token at a place
 abbrev pub kept_past : Kept → ℕ × List ℕ → Kept
-kept_past kept found = kept_after kept found.1 (operator_named found.1)
+kept_past kept found = kept_after_token kept found.1 (operator_named found.1)
 
 -- word, notes: what is kept after some tokens
 abbrev pub kept_through : Kept → List (ℕ × List ℕ) → Kept

@@ -2,12 +2,15 @@ pub mod BodyWords
 pub mod CommandWords
 pub mod GlyphNames
 pub mod Heads
+pub mod HeadsByLine
 pub mod Kept
 pub mod LineSections
 pub mod Merged
-pub mod Notes
 pub mod NoteTexts
+pub mod Notes
 pub mod NumberedLines
 pub mod PairNotes
 pub mod PlacedTokens
+pub mod StraysByLine
+pub mod Tables
 pub mod Told

@@ -13,10 +13,10 @@ section_count Subrs l = count_between (codes "/Subrs") (codes "array") (places_f
 section_count Glyphs l = count_between (codes "/CharStrings") (codes "dict") (places_from 0 l)
 
 -- profile, notes: whether a line is that of the section
-abbrev pub is_section : Section → List ℕ → Bool
-is_section section l = is_some (section_count section l)
+abbrev pub is_line_of_section : Section → List ℕ → Bool
+is_line_of_section section l = is_some (section_count section l)
 
 -- profile, notes: whether a line opens an entry, as `dup N {` opens a Subr and `/NAME {` a glyph
-abbrev pub opens : Section → List ℕ → Bool
-opens Subrs l = is_some (opens_subr (tokens l))
-opens Glyphs l = is_some (opens_glyph (tokens l))
+abbrev pub opens_entry_of : Section → List ℕ → Bool
+opens_entry_of Subrs l = is_some (opens_subr (tokens l))
+opens_entry_of Glyphs l = is_some (opens_glyph (tokens l))

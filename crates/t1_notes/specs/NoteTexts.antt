@@ -43,12 +43,12 @@ kind_text FontBox = codes "FontBBox isn't the box around the glyphs"
 kind_text WideGlyph = codes "the glyph reaches past 16000, which old interpreters may not take"
 
 -- profile, notes: where a note on a file of this name stands
-abbrev pub place_text : List ℕ → Note → List ℕ
-place_text file note = file ++ (codes ":" ++ (decimal note.line ++ (codes ":" ++ decimal note.column)))
+abbrev pub note_place_text : List ℕ → Note → List ℕ
+note_place_text file note = file ++ (codes ":" ++ (decimal note.line ++ (codes ":" ++ decimal note.column)))
 
 -- profile, notes: a note on a file of this name, as a line
 abbrev pub note_text : List ℕ → Note → List ℕ
-note_text file note = place_text file note ++ (codes ": note " ++ (kind_name note.kind ++ (codes ": " ++ (kind_text note.kind ++ codes "\n"))))
+note_text file note = note_place_text file note ++ (codes ": note " ++ (kind_name note.kind ++ (codes ": " ++ (kind_text note.kind ++ codes "\n"))))
 
 -- profile, notes: notes on a file of this name, a line each
 abbrev pub notes_text : List ℕ → List Note → List ℕ

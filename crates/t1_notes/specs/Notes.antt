@@ -6,7 +6,7 @@ use Rattle.t1_frac.specs.Numbers.{decimal_value}
 use Rattle.t1_text.specs.Lines.{lines}
 use Rattle.t1_text.specs.Names.{decimal_of, up_to}
 use Rattle.t1_text.specs.Tokens.{first_is, first_token, last_is, places_from, tokens}
-use Rattle.t1_parts.specs.Encoding.{slot_of_tokens}
+use Rattle.t1_parts.specs.Encoding.{ends_array, slot_of_tokens}
 use Rattle.t1_parts.specs.Entries.{opens_subr}
 use Rattle.t1_parts.specs.Sections.{count_between}
 use Rattle.t1_notes.specs.declared.line.Line.{Line}
@@ -16,11 +16,11 @@ use Rattle.t1_notes.specs.declared.note.NoteKind.TheVariants.{ByteOrderMark, Fir
 use Rattle.t1_notes.specs.declared.sections.Section.{Section}
 use Rattle.t1_notes.specs.declared.sections.Section.TheVariants.{Subrs, Glyphs}
 use Rattle.t1_notes.specs.BodyWords.{body_notes, note_where}
-use Rattle.t1_notes.specs.GlyphNames.{has_glyph}
-use Rattle.t1_notes.specs.Heads.{goes_on, has_open, heads}
-use Rattle.t1_notes.specs.LineSections.{is_section, opens, section_count}
+use Rattle.t1_notes.specs.GlyphNames.{has_line_of_glyph}
+use Rattle.t1_notes.specs.Heads.{leaves_entry_open, has_open, heads}
+use Rattle.t1_notes.specs.LineSections.{is_line_of_section, opens_entry_of, section_count}
 use Rattle.t1_notes.specs.Merged.{merged}
-use Rattle.t1_notes.specs.NumberedLines.{before, from, past, note_on, numbered}
+use Rattle.t1_notes.specs.NumberedLines.{before, from, lines_past, note_on, numbered}
 use Rattle.t1_notes.specs.Told.{told}
 
 -- profile, notes: a note of a kind on each line whose text passes a test
@@ -43,13 +43,9 @@ opening_notes text = if is_font text then [] else record { kind = opening_kind t
 abbrev pub opens_array : List ℕ → Bool
 opens_array l = is_some (count_between (codes "/Encoding") (codes "array") (places_from 0 l))
 
--- profile, encoding: whether a line ends an encoding array
-abbrev pub ends_array : List ℕ → Bool
-ends_array l = last_is (codes "def") (tokens l)
-
 -- profile, notes: the lines of the encoding array
-abbrev pub array_lines : List Line → List Line
-array_lines ls = before ends_array (past opens_array ls)
+abbrev pub encoding_lines : List Line → List Line
+encoding_lines ls = before ends_array (lines_past opens_array ls)
 
 -- profile, notes: whether a slot's glyph is neither there nor `.notdef`
 abbrev pub is_lost_slot : (List ℕ → Bool) → Option (ℕ × List ℕ) → Bool
@@ -62,7 +58,7 @@ is_lost is_there l = is_lost_slot is_there (slot_of_tokens (tokens l))
 
 -- profile, notes: the slots of the encoding array whose glyphs aren't there
 abbrev pub encoding_notes : (List ℕ → Bool) → List Line → List Note
-encoding_notes is_there ls = noted EncodedName (is_lost is_there) (array_lines ls)
+encoding_notes is_there ls = noted EncodedName (is_lost is_there) (encoding_lines ls)
 
 -- profile, notes: a number plus one
 abbrev pub past_number : Option ℕ → ℕ
@@ -85,7 +81,7 @@ subrs_need (l ∷ ls) = max (subr_need l.text) (subrs_need ls)
 
 -- profile, notes: the number of glyphs
 abbrev pub glyphs_need : List Line → ℕ
-glyphs_need heads = count_by (λ l. opens Glyphs l.text) heads
+glyphs_need heads = count_by (λ l. opens_entry_of Glyphs l.text) heads
 
 -- profile, notes: a count that is higher than what is needed
 abbrev pub too_high : Line → Option (ℕ × List ℕ) → ℕ → List Note
@@ -98,7 +94,7 @@ count_notes section l need = too_high l (section_count section l.text) need
 
 -- profile, notes: whether a line looks like the entry of a Subr, and opens none
 abbrev pub is_plain_entry : List ℕ → Bool
-is_plain_entry l = not (opens Subrs l) && (first_is (codes "dup") (tokens l) || has_open l)
+is_plain_entry l = not (opens_entry_of Subrs l) && (first_is (codes "dup") (tokens l) || has_open l)
 
 -- profile, notes: such lines
 abbrev pub plain_notes : List Line → List Note
@@ -110,7 +106,7 @@ section_entry section = note_where (last_is (codes "{") (tokens section.text)) (
 
 -- profile, notes: the lines that open a Subr which goes on, where no section has them
 abbrev pub lost_notes : List Line → List Note
-lost_notes ls = noted PlainEntry (goes_on Subrs) ls
+lost_notes ls = noted PlainEntry (leaves_entry_open Subrs) ls
 
 -- profile, notes: the lines before the section of the Subrs, and those from its line on, without which the first are all
 abbrev pub subrs_from : List Line → List Line → List Note
@@ -120,7 +116,7 @@ subrs_from early (section ∷ later) =
 
 -- profile, notes: the Subrs of the lines before the glyphs
 abbrev pub subr_notes : List Line → List Note
-subr_notes ls = subrs_from (before (is_section Subrs) ls) (from (is_section Subrs) ls)
+subr_notes ls = subrs_from (before (is_line_of_section Subrs) ls) (from (is_line_of_section Subrs) ls)
 
 -- Type 1 Font Format, Chapter 2: the line that ends the glyphs
 abbrev pub is_end : List ℕ → Bool
@@ -136,7 +132,7 @@ notdef_notes is_there section = note_where (not (is_there (codes ".notdef"))) (n
 
 -- profile, notes: whether a line belongs to no glyph, and isn't bare
 abbrev pub is_stray : List ℕ → Bool
-is_stray l = not (opens Glyphs l || is_bare l)
+is_stray l = not (opens_entry_of Glyphs l || is_bare l)
 
 -- profile, notes: whether the nearest of some lines that isn't bare, of which the last comes first, belongs to no glyph
 abbrev pub follows_stray : List Line → Bool
@@ -151,18 +147,9 @@ stray_note follows l = note_where (is_stray l.text && not follows) (note_on NoEn
 abbrev pub stray_notes : List Line → List Note
 stray_notes heads = told (λ before l. stray_note (follows_stray before) l) [] heads
 
--- word, notes: whether a stray line is the nearest one after a line
-abbrev pub stray_after : Bool → List ℕ → Bool
-stray_after follows l = if is_bare l then follows else is_stray l
-
--- word, notes: the same notes, by whether the nearest line before is stray
-abbrev pub strays_by_line : Bool → List Line → List Note
-strays_by_line follows [] = []
-strays_by_line follows (l ∷ ls) = stray_note follows l ++ strays_by_line (stray_after follows l.text) ls
-
 -- profile, notes: the glyphs after the line that ends the glyphs
 abbrev pub late_notes : List Line → List Note
-late_notes heads = noted AfterEnd (opens Glyphs) heads
+late_notes heads = noted AfterEnd (opens_entry_of Glyphs) heads
 
 -- profile, notes: the section of the glyphs, by its lines to the one that ends the glyphs, and those from there on
 abbrev pub glyph_notes : (List ℕ → Bool) → Line → List Line → List Line → List Note
@@ -177,7 +164,7 @@ glyph_parts_notes is_there front section heads late = merged (encoding_notes is_
 -- profile, notes: the same, by the lines of the section that stand inside no glyph
 abbrev pub section_notes : List Line → Line → List Line → List Note
 section_notes front section heads =
-    glyph_parts_notes (has_glyph (before is_end heads)) front section (before is_end heads) (from is_end heads)
+    glyph_parts_notes (has_line_of_glyph (before is_end heads)) front section (before is_end heads) (from is_end heads)
 
 -- profile, notes: the lines before the glyphs, and those from the line of their section on, without which nothing is noted
 abbrev pub parted_notes : List Line → List Line → List Note
@@ -186,11 +173,11 @@ parted_notes front (section ∷ later) = section_notes front section (heads Glyp
 
 -- profile, notes: the notes on lines
 abbrev pub line_notes : List Line → List Note
-line_notes ls = parted_notes (before (is_section Glyphs) ls) (from (is_section Glyphs) ls)
+line_notes ls = parted_notes (before (is_line_of_section Glyphs) ls) (from (is_line_of_section Glyphs) ls)
 
 -- profile, notes: the notes on the bodies of both sections
 abbrev pub word_notes : List Line → List Note
-word_notes ls = body_notes (past (is_section Subrs) (before (is_section Glyphs) ls)) ++ body_notes (past (is_section Glyphs) ls)
+word_notes ls = body_notes (lines_past (is_line_of_section Subrs) (before (is_line_of_section Glyphs) ls)) ++ body_notes (lines_past (is_line_of_section Glyphs) ls)
 
 -- profile, notes: the notes on a text, in the order of their places
 unfoldable pub notes_of : List ℕ → List Note

@@ -20,8 +20,8 @@ abbrev pub from : (List ℕ → Bool) → List Line → List Line
 from test ls = drop (position_or_len (λ l. test l.text) ls) ls
 
 -- profile, notes: the lines after the first whose text passes a test
-abbrev pub past : (List ℕ → Bool) → List Line → List Line
-past test ls = drop 1 (from test ls)
+abbrev pub lines_past : (List ℕ → Bool) → List Line → List Line
+lines_past test ls = drop 1 (from test ls)
 
 -- profile, notes: a note on the first byte of a line that isn't blank
 abbrev pub note_on : NoteKind → Line → Note

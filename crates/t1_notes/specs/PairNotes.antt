@@ -8,9 +8,9 @@ use Rattle.t1_notes.specs.declared.note.Note.{Note}
 use Rattle.t1_notes.specs.declared.note.NoteKind.TheVariants.{NoSuchGlyph}
 use Rattle.t1_notes.specs.declared.sections.Section.TheVariants.{Glyphs}
 use Rattle.t1_notes.specs.BodyWords.{note_at, note_where}
-use Rattle.t1_notes.specs.GlyphNames.{has_glyph}
+use Rattle.t1_notes.specs.GlyphNames.{has_line_of_glyph}
 use Rattle.t1_notes.specs.Heads.{heads}
-use Rattle.t1_notes.specs.LineSections.{is_section}
+use Rattle.t1_notes.specs.LineSections.{is_line_of_section}
 use Rattle.t1_notes.specs.Notes.{is_end}
 use Rattle.t1_notes.specs.NumberedLines.{before, from, numbered}
 
@@ -32,8 +32,8 @@ lines_notes is_there ls = flat_map (λ l. kpx_notes is_there l.number (places_fr
 -- nothing is noted
 abbrev pub paired_notes : List Line → List Line → List Note
 paired_notes [] ls = []
-paired_notes (section ∷ later) ls = lines_notes (has_glyph (before is_end (heads Glyphs later))) ls
+paired_notes (section ∷ later) ls = lines_notes (has_line_of_glyph (before is_end (heads Glyphs later))) ls
 
 -- profile, notes: the notes on a kerning file, whose pairs are to be of glyphs of a source
 unfoldable pub pair_notes : List ℕ → List ℕ → List Note
-pair_notes source pairs = paired_notes (from (is_section Glyphs) (numbered 1 (lines source))) (numbered 1 (lines pairs))
+pair_notes source pairs = paired_notes (from (is_line_of_section Glyphs) (numbered 1 (lines source))) (numbered 1 (lines pairs))

@@ -5,7 +5,8 @@ ghost use Rattle.std.specs.Map.{lookup};
 ghost use Rattle.std.specs.Str.{bytes_eq};
 ghost use Rattle.t1_code.specs.Words.{operator_named, operator_words};
 ghost use Rattle.t1_run.specs.Words.{draws as draws_of};
-ghost use Rattle.t1_notes.specs.CommandWords.{rows_of, passes};
+ghost use Rattle.t1_notes.specs.CommandWords.{passes};
+ghost use Rattle.t1_notes.specs.Tables.{rows_of};
 ghost use Rattle.t1_notes.specs.CommandWords.{clears, is_hsbw, wants_closed, ends_path};
 
 use t1_code::Command;

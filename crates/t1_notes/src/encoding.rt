@@ -2,9 +2,10 @@
 
 ghost use Rattle.std.specs.Prelude.{◌≡◌, ◌++◌, ◌≤◌, length, OnOk};
 ghost use Rattle.std.specs.List.{position_or_len};
-ghost use Rattle.t1_notes.specs.Notes.{opens_array, ends_array, array_lines, is_lost};
+ghost use Rattle.t1_parts.specs.Encoding.{ends_array};
+ghost use Rattle.t1_notes.specs.Notes.{opens_array, encoding_lines, is_lost};
 ghost use Rattle.t1_notes.specs.Notes.{encoding_notes};
-ghost use Rattle.t1_notes.specs.GlyphNames.{has_name};
+ghost use Rattle.t1_notes.specs.Tables.{is_among_names};
 
 use crate::line::{Line, past};
 use crate::names::is_among;
@@ -52,7 +53,7 @@ fn end_place(lines: &[Line]) -> usize
 
 /// The lines of the encoding array.
 fn array_lines<'l, 'a>(lines: &'l [Line<'a>]) -> &'l [Line<'a>]
-    ensures { result.now ≡ array_lines lines.now }
+    ensures { result.now ≡ encoding_lines lines.now }
 {
     let later = past(lines, array_place(lines));
     later.split_at(end_place(later)).0
@@ -60,7 +61,7 @@ fn array_lines<'l, 'a>(lines: &'l [Line<'a>]) -> &'l [Line<'a>]
 
 /// Whether a line is a slot whose glyph is neither among these names nor `.notdef`.
 fn is_lost(names: &IndexSet<&[u8]>, line: &[u8]) -> bool
-    ensures { result ≡ is_lost (has_name names.now.keys) line.now }
+    ensures { result ≡ is_lost (is_among_names names.now.keys) line.now }
 {
     match slot_of(line) {
         Some((_, glyph)) => !same(glyph, b".notdef") && !is_among(names, glyph),
@@ -74,7 +75,7 @@ pub fn push_encoding(
     lines: &[Line],
     names: &IndexSet<&[u8]>,
 ) -> Result<(), AllocError>
-    ensures { OnOk result (notes.new.items ≡ notes.old.items ++ encoding_notes (has_name
+    ensures { OnOk result (notes.new.items ≡ notes.old.items ++ encoding_notes (is_among_names
         names.now.keys) lines.now) }
 {
     let array = array_lines(lines);

@@ -2,8 +2,9 @@
 
 ghost use Rattle.std.specs.Prelude.{◌≡◌, ◌++◌, ◌≤◌, length, OnOk};
 ghost use Rattle.std.specs.List.{position_or_len};
-ghost use Rattle.t1_notes.specs.GlyphNames.{has_name};
-ghost use Rattle.t1_notes.specs.Notes.{is_end, is_bare, is_stray, stray_after, stray_note};
+ghost use Rattle.t1_notes.specs.Tables.{is_among_names};
+ghost use Rattle.t1_notes.specs.Notes.{is_end, is_bare, is_stray, stray_note};
+ghost use Rattle.t1_notes.specs.StraysByLine.{stray_after};
 ghost use Rattle.t1_notes.specs.Notes.{stray_notes, late_notes, notdef_notes, glyph_notes};
 
 use crate::bodies::push_where;
@@ -47,7 +48,7 @@ fn push_notdef(
     section: &Line,
     names: &IndexSet<&[u8]>,
 ) -> Result<(), AllocError>
-    ensures { OnOk result (notes.new.items ≡ notes.old.items ++ notdef_notes (has_name
+    ensures { OnOk result (notes.new.items ≡ notes.old.items ++ notdef_notes (is_among_names
         names.now.keys) section.now) }
 {
     let note = section.note(NoteKind::NoNotdef);
@@ -113,7 +114,7 @@ pub fn push_glyphs(
     heads: &[Line],
     late: &[Line],
 ) -> Result<(), AllocError>
-    ensures { OnOk result (notes.new.items ≡ notes.old.items ++ glyph_notes (has_name
+    ensures { OnOk result (notes.new.items ≡ notes.old.items ++ glyph_notes (is_among_names
         names.now.keys)
         section.now heads.now late.now) }
 {

@@ -3,7 +3,8 @@
 ghost use Rattle.std.specs.Prelude.{◌≡◌, ◌++◌, ◌==◌, ◌≤◌, length, IfOk, OnOk};
 ghost use Rattle.std.specs.List.{list_any, position_or_len};
 ghost use Rattle.t1_frac.specs.Ascii.{open_brace};
-ghost use Rattle.t1_notes.specs.Heads.{after_brace, has_open, goes_on, head_of, entry_open_after};
+ghost use Rattle.t1_notes.specs.Heads.{after_brace, has_open, leaves_entry_open, head_line_of};
+ghost use Rattle.t1_notes.specs.HeadsByLine.{entry_open_after};
 ghost use Rattle.t1_notes.specs.Heads.{heads};
 
 use crate::line::Line;
@@ -45,7 +46,7 @@ fn after_brace(line: &[u8]) -> &[u8]
 
 /// Whether a line opens an entry of the section, and has no brace behind the `{`.
 pub fn goes_on(section: Section, line: &[u8]) -> bool
-    ensures { result ≡ goes_on section line.now }
+    ensures { result ≡ leaves_entry_open section line.now }
 {
     opens(section, line) && !has_brace(after_brace(line))
 }
@@ -68,7 +69,7 @@ fn push_head<'a>(
     in_entry: bool,
     line: &Line<'a>,
 ) -> Result<(), AllocError>
-    ensures { OnOk result (found.new.items ≡ found.old.items ++ head_of in_entry line.now) }
+    ensures { OnOk result (found.new.items ≡ found.old.items ++ head_line_of in_entry line.now) }
 {
     if in_entry && !has_open(line.bytes()) {
         return Ok(());

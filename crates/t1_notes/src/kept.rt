@@ -4,7 +4,8 @@
 ghost use Rattle.std.specs.Prelude.{◌≡◌, if◌then◌else◌, []};
 ghost use Rattle.t1_frac.specs.Numbers.{is_number_word};
 ghost use Rattle.t1_notes.specs.BodyWords.{is_below_zero, is_brace_token, is_past};
-ghost use Rattle.t1_notes.specs.Kept.{kept_of, kept_after, one_more, open_after};
+ghost use Rattle.t1_notes.specs.Kept.{kept_of_tokens, kept_after_token, one_number_more};
+ghost use Rattle.t1_notes.specs.Kept.{open_after};
 
 use crate::commands::{some_draws, some_ends_path};
 use t1_code::Command;
@@ -26,7 +27,7 @@ pub struct Kept {
 
 /// What is kept of no tokens.
 pub fn nothing_kept() -> Kept
-    ensures { result ≡ kept_of [] }
+    ensures { result ≡ kept_of_tokens [] }
 {
     Kept {
         numbers: 0,
@@ -38,7 +39,7 @@ pub fn nothing_kept() -> Kept
 
 /// One number more.
 fn one_more(numbers: u8) -> u8
-    ensures { result ≡ one_more numbers }
+    ensures { result ≡ one_number_more numbers }
 {
     if numbers < 7 { numbers + 1 } else { 7 }
 }
@@ -76,7 +77,7 @@ fn open_after(is_open: bool, token: &[u8], command: Option<Command>) -> bool
 
 /// How many numbers stand right before the place after a token.
 fn numbers_after(numbers: u8, token: &[u8]) -> u8
-    ensures { result ≡ (if is_number_word token.now then one_more numbers else 0) }
+    ensures { result ≡ (if is_number_word token.now then one_number_more numbers else 0) }
 {
     if is_number_word(token) {
         one_more(numbers)
@@ -87,7 +88,7 @@ fn numbers_after(numbers: u8, token: &[u8]) -> u8
 
 /// What is kept after a token that names this command.
 pub fn kept_after(kept: Kept, token: &[u8], command: Option<Command>) -> Kept
-    ensures { result ≡ kept_after kept token.now command }
+    ensures { result ≡ kept_after_token kept token.now command }
 {
     Kept {
         numbers: numbers_after(kept.numbers, token),

@@ -2,11 +2,12 @@
 
 ghost use Rattle.std.specs.Prelude.{◌≡◌, ◌++◌, IfOk, OnOk};
 ghost use Rattle.t1_notes.specs.declared.sections.Section.TheVariants.{Glyphs};
-ghost use Rattle.t1_notes.specs.GlyphNames.{has_glyph, has_name};
+ghost use Rattle.t1_notes.specs.GlyphNames.{has_line_of_glyph};
+ghost use Rattle.t1_notes.specs.Tables.{is_among_names};
 ghost use Rattle.t1_notes.specs.BodyWords.{body_notes};
 ghost use Rattle.t1_notes.specs.Heads.{heads};
-ghost use Rattle.t1_notes.specs.LineSections.{is_section};
-ghost use Rattle.t1_notes.specs.NumberedLines.{past};
+ghost use Rattle.t1_notes.specs.LineSections.{is_line_of_section};
+ghost use Rattle.t1_notes.specs.NumberedLines.{lines_past};
 ghost use Rattle.t1_notes.specs.Notes.{glyph_parts_notes, section_notes, line_notes, word_notes};
 ghost use Rattle.t1_notes.specs.Notes.{notes_of};
 
@@ -36,7 +37,7 @@ fn push_parts(
     late: &[Line],
 ) -> Result<(), AllocError>
     ensures { OnOk result (notes.new.items ≡ notes.old.items ++ glyph_parts_notes
-        (has_name names.now.keys) front.now section.now heads.now late.now) }
+        (is_among_names names.now.keys) front.now section.now heads.now late.now) }
 {
     let mut slots = Vec::new(alloc);
     push_encoding(&mut slots, front, names)?;
@@ -57,7 +58,7 @@ fn push_ended(
     late: &[Line],
 ) -> Result<(), AllocError>
     ensures { OnOk result (notes.new.items ≡ notes.old.items ++ glyph_parts_notes
-        (has_glyph heads.now) front.now section.now heads.now late.now) }
+        (has_line_of_glyph heads.now) front.now section.now heads.now late.now) }
 {
     let names = glyph_names(alloc, heads)?;
     push_parts(alloc, notes, &names, front, section, heads, late)
@@ -112,9 +113,9 @@ fn push_section_words(
     section: Section,
     lines: &[Line],
 ) -> Result<(), AllocError>
-    ensures { OnOk result (notes.new.items ≡ notes.old.items ++ body_notes (past (is_section
-        section)
-        lines.now)) }
+    ensures { OnOk result
+        (notes.new.items
+        ≡ notes.old.items ++ body_notes (lines_past (is_line_of_section section) lines.now)) }
 {
     push_bodies(notes, past(lines, section_place(section, lines)))
 }

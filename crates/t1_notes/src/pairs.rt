@@ -2,7 +2,8 @@
 
 ghost use Rattle.std.specs.Prelude.{◌≡◌, ◌<◌, ◌^◌, ◌++◌, IfOk, OnOk};
 ghost use Rattle.t1_text.specs.Tokens.{places_from};
-ghost use Rattle.t1_notes.specs.GlyphNames.{has_glyph, has_name};
+ghost use Rattle.t1_notes.specs.GlyphNames.{has_line_of_glyph};
+ghost use Rattle.t1_notes.specs.Tables.{is_among_names};
 ghost use Rattle.t1_notes.specs.declared.sections.Section.TheVariants.{Glyphs};
 ghost use Rattle.t1_notes.specs.Heads.{heads};
 ghost use Rattle.t1_notes.specs.Notes.{is_end};
@@ -30,9 +31,9 @@ fn push_name(
     name: &[u8],
 ) -> Result<(), AllocError>
     requires { place < 2 ^ 63 }
-    ensures { OnOk result (notes.new.items ≡ notes.old.items ++ name_note (has_name names.now.keys)
-        line
-        (place, name.now)) }
+    ensures { OnOk result
+        (notes.new.items
+        ≡ notes.old.items ++ name_note (is_among_names names.now.keys) line (place, name.now)) }
 {
     let note = Note {
         kind: NoteKind::NoSuchGlyph,
@@ -49,8 +50,10 @@ fn push_pair(
     number: u64,
     line: &[u8],
 ) -> Result<(), AllocError>
-    ensures { OnOk result (notes.new.items ≡ notes.old.items ++ kpx_notes (has_name names.now.keys)
-        number (places_from 0 line.now)) }
+    ensures { OnOk result
+        (notes.new.items
+        ≡ notes.old.items
+        ++ kpx_notes (is_among_names names.now.keys) number (places_from 0 line.now)) }
 {
     let Some((at, kpx, after)) = next_place(0, line) else {
         return Ok(());
@@ -74,7 +77,7 @@ fn push_pairs(
     names: &IndexSet<&[u8]>,
     lines: &[Line],
 ) -> Result<(), AllocError>
-    ensures { OnOk result (notes.new.items ≡ notes.old.items ++ lines_notes (has_name
+    ensures { OnOk result (notes.new.items ≡ notes.old.items ++ lines_notes (is_among_names
         names.now.keys)
         lines.now) }
 {
@@ -92,8 +95,9 @@ fn push_lines(
     heads: &[Line],
     lines: &[Line],
 ) -> Result<(), AllocError>
-    ensures { OnOk result (notes.new.items ≡ notes.old.items ++ lines_notes (has_glyph heads.now)
-        lines.now) }
+    ensures { OnOk result
+        (notes.new.items
+        ≡ notes.old.items ++ lines_notes (has_line_of_glyph heads.now) lines.now) }
 {
     let names = glyph_names(alloc, heads)?;
     push_pairs(notes, &names, lines)
@@ -108,7 +112,7 @@ fn push_ended(
     lines: &[Line],
 ) -> Result<(), AllocError>
     ensures { OnOk result (notes.new.items ≡ notes.old.items ++ lines_notes
-        (has_glyph (before is_end heads.now)) lines.now) }
+        (has_line_of_glyph (before is_end heads.now)) lines.now) }
 {
     push_lines(alloc, notes, heads.split_at(end_place(heads)).0, lines)
 }
@@ -122,7 +126,7 @@ fn push_section(
     lines: &[Line],
 ) -> Result<(), AllocError>
     ensures { OnOk result (notes.new.items ≡ notes.old.items ++ lines_notes
-        (has_glyph (before is_end (heads Glyphs later.now))) lines.now) }
+        (has_line_of_glyph (before is_end (heads Glyphs later.now))) lines.now) }
 {
     let heads = section_heads(alloc, Section::Glyphs, later)?;
     push_ended(alloc, notes, &heads, lines)

@@ -1,7 +1,8 @@
 //! Notes as lines of text.
 
 ghost use Rattle.std.specs.Prelude.{◌≡◌, ◌++◌, IfOk, OnOk};
-ghost use Rattle.t1_notes.specs.NoteTexts.{kind_name, kind_text, place_text, note_text, notes_text};
+ghost use Rattle.t1_notes.specs.NoteTexts.{kind_name, kind_text, note_place_text, note_text};
+ghost use Rattle.t1_notes.specs.NoteTexts.{notes_text};
 
 use crate::note::{Note, NoteKind};
 use itoa::Buffer;
@@ -59,7 +60,7 @@ fn kind_text(kind: NoteKind) -> &'static [u8]
 
 /// Adds where a note on a file of this name stands, `FILE:LINE:COLUMN`.
 fn push_place(text: &mut Vec<u8>, file: &[u8], note: &Note) -> Result<(), AllocError>
-    ensures { OnOk result (text.new.items ≡ text.old.items ++ place_text file.now note.now) }
+    ensures { OnOk result (text.new.items ≡ text.old.items ++ note_place_text file.now note.now) }
 {
     let mut line = Buffer::new();
     let mut column = Buffer::new();

@@ -3,7 +3,7 @@
 ghost use Rattle.std.specs.Prelude.{◌≡◌, ◌≤◌, length, option_map, IfSome, IsTrue};
 ghost use Rattle.std.specs.List.{position_or_len};
 ghost use Rattle.t1_text.specs.Names.{is_count};
-ghost use Rattle.t1_notes.specs.LineSections.{section_count, is_section, opens};
+ghost use Rattle.t1_notes.specs.LineSections.{section_count, is_line_of_section, opens_entry_of};
 
 use crate::line::Line;
 use t1_parts::{count_between, opens_glyph, opens_subr};
@@ -29,14 +29,14 @@ pub fn section_count(section: Section, line: &[u8]) -> Option<(usize, &[u8])>
 
 /// Whether a line is that of the section.
 fn is_section(section: Section, line: &[u8]) -> bool
-    ensures { result ≡ is_section section line.now }
+    ensures { result ≡ is_line_of_section section line.now }
 {
     section_count(section, line).is_some()
 }
 
 /// Whether a line opens an entry of the section.
 pub fn opens(section: Section, line: &[u8]) -> bool
-    ensures { result ≡ opens section line.now }
+    ensures { result ≡ opens_entry_of section line.now }
 {
     match section {
         Section::Subrs => opens_subr(line).is_some(),
@@ -47,7 +47,7 @@ pub fn opens(section: Section, line: &[u8]) -> bool
 /// How many lines stand before that of the section.
 pub fn section_place(section: Section, lines: &[Line]) -> usize
     ensures within { result ≤ length lines.now }
-    ensures value { result ≡ position_or_len (λ l. is_section section l.text) lines.now }
+    ensures value { result ≡ position_or_len (λ l. is_line_of_section section l.text) lines.now }
 {
     lines
         .iter()

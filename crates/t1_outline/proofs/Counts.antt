@@ -2,7 +2,8 @@
 use Rattle.std.proofs.Common.{◌≡◌, ℕ, zero, suc, ◌+◌, ◌≤◌, ◌^◌, ◌-◌, min, refl, ap, ◌∙◌, arith}
 use Rattle.std.specs.Prelude.{Result, Ok, Err}
 use Rattle.std.specs.Result.{OnOk}
-use Rattle.t1_font.specs.Runs.{counted, CountsSome}
+use Rattle.t1_font.specs.Runs.{CountsSome}
+use Rattle.t1_font.specs.RunCounts.{counted}
 
 -- so many runs, and then so many more
 pub counted_both : (count a b : ℕ) → counted (counted count a) b ≡ counted count (a + b)

@@ -11,7 +11,7 @@ use Rattle.t1_code.specs.declared.command.Command.{Command}
 use Rattle.t1_run.specs.declared.outline.Segment.{Segment}
 use Rattle.t1_run.specs.Composite.{outline}
 use Rattle.t1_run.specs.Run.{FontBodies, own}
-use Rattle.t1_font.specs.Runs.{counted}
+use Rattle.t1_font.specs.RunCounts.{counted}
 use Rattle.t1_outline.specs.Counting.{outline_runs, runs_within}
 use Rattle.t1_outline.specs.Shown.{glyph_outline}
 use Rattle.t1_outline.specs.Text.{outline_text}

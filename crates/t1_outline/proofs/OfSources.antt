@@ -22,7 +22,8 @@ use Rattle.t1_run.specs.Run as keys
 use Rattle.t1_run.proofs.Asked.{bytes_same}
 use Rattle.t1_run.proofs.Outlines.{outline_same}
 use Rattle.t1_font.specs.Bodies.{bodies, glyph_among}
-use Rattle.t1_font.specs.Glyphs.{Glyph as Reported, glyph_of, glyphs, glyphs_by, glyph_names, run_there}
+use Rattle.t1_font.specs.Glyphs.{Glyph as Reported, glyph_of, glyphs, glyphs_by, glyph_names}
+use Rattle.t1_extent.specs.FoundRuns.{run_there}
 use Rattle.t1_font.specs.SourceChecks.{source_check, source_glyphs}
 use Rattle.t1_font.specs.Assembly.{file_check}
 use Rattle.t1_font.proofs.GlyphsOfSource.{check-by-glyphs}

@@ -6,7 +6,8 @@ use Rattle.t1_parts.specs.SourceParts.{SourceParts}
 use Rattle.t1_run.specs.declared.outline.Segment.{Segment}
 use Rattle.t1_run.specs.Composite.{outline}
 use Rattle.t1_run.specs.Run.{FontBodies}
-use Rattle.t1_font.specs.Bodies.{bodies, SameBodies}
+use Rattle.t1_font.specs.Bodies.{bodies}
+use Rattle.t1_font.specs.KeptBodies.{SameBodies}
 use Rattle.t1_font.specs.SourceChecks.{source_check}
 use Rattle.t1_outline.specs.Counting.{outline_runs}
 use Rattle.t1_outline.specs.Shown.{glyph_outline, source_outline}

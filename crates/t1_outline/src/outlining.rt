@@ -5,7 +5,8 @@ ghost use Rattle.t1_frac.specs.Outcome.{Gives, reported_at};
 ghost use Rattle.t1_frac.specs.declared.fault.Place.TheVariants.{Glyph, Nowhere};
 ghost use Rattle.t1_run.specs.Composite.{outline, outline_within};
 ghost use Rattle.t1_run.specs.Run.{font, own};
-ghost use Rattle.t1_font.specs.Runs.{counted, CountsSome};
+ghost use Rattle.t1_font.specs.Runs.{CountsSome};
+ghost use Rattle.t1_font.specs.RunCounts.{counted};
 ghost use Rattle.t1_outline.specs.Counting.{outline_runs, runs_within};
 
 use std::alloc::Global;

@@ -3,7 +3,8 @@
 ghost use Rattle.std.specs.Prelude.{◌≡◌, option_map, OnErr, OnOk};
 ghost use Rattle.t1_frac.specs.Outcome.{Gives};
 ghost use Rattle.t1_run.specs.Run.{font};
-ghost use Rattle.t1_font.specs.Runs.{counted, CountsSome};
+ghost use Rattle.t1_font.specs.Runs.{CountsSome};
+ghost use Rattle.t1_font.specs.RunCounts.{counted};
 ghost use Rattle.t1_outline.specs.Counting.{outline_runs};
 ghost use Rattle.t1_outline.specs.Shown.{glyph_outline};
 

@@ -12,12 +12,14 @@ use Rattle.t1_parts.specs.declared.item.Item.{Item}
 use Rattle.t1_parts.specs.SourceParts.{SourceParts}
 use Rattle.t1_commands.specs.AnswerTexts.{fault_text}
 use Rattle.t1_run.specs.Run.{FontBodies}
-use Rattle.t1_font.specs.Bodies.{SameBodies, bodies, bodies_check}
+use Rattle.t1_font.specs.Bodies.{bodies, bodies_check}
+use Rattle.t1_font.specs.KeptBodies.{SameBodies}
 use Rattle.t1_font.specs.MeasuredGlyphs.{MeasuredFont}
 use Rattle.t1_font.specs.SourceChecks.{measured_source, source_check}
 use Rattle.t1_refusal.specs.declared.met.FailedRun.{FailedRun}
-use Rattle.t1_refusal.specs.Met.{met_within, seen_of}
-use Rattle.t1_refusal.specs.Telling.{fault_lines, fault_of, glyph_lines, is_of_word, lines_of, met_lines, place_lines, refusal_text, run_lines, word_lines, HasFaultyBody}
+use Rattle.t1_refusal.specs.Met.{met_within}
+use Rattle.t1_refusal.specs.Bodies.{seen_of, HasFaultyBody}
+use Rattle.t1_refusal.specs.Telling.{refused_fault_lines, fault_of, glyph_lines, is_of_word, told_lines, met_lines, place_lines, refusal_text, run_lines, word_lines}
 use Rattle.t1_refusal.proofs.MetLaws.{met_same}
 
 pub fault_of_passed : (s : SourceParts) (font : MeasuredFont) → measured_source s ≡ Ok font → ◌≡◌ {A = Option Fault} None (fault_of (source_check s))
@@ -62,23 +64,23 @@ module _ (items : List Item) (glyph : List ℕ) (m : FontBodies) (found : Option
 -- ---- the lines of a fault
 
 module _ (items : List Item) (fault : Fault) (old mid : List ℕ) (first : mid ≡ old ++ (fault_text fault ++ line_feed ∷ [])) where
-  lines-are : (rest : List ℕ) → rest ≡ (if is_of_word fault.code then word_lines items fault.place else place_lines items fault.place) → mid ++ rest ≡ old ++ fault_lines items fault
-  unfolding fault_lines
+  lines-are : (rest : List ℕ) → rest ≡ (if is_of_word fault.code then word_lines items fault.place else place_lines items fault.place) → mid ++ rest ≡ old ++ refused_fault_lines items fault
+  unfolding refused_fault_lines
   lines-are rest e =
       ap (λ t. t ++ rest) first ∙ append_assoc old (fault_text fault ++ line_feed ∷ []) rest
       ∙ ap (λ t. old ++ t) (append_assoc (fault_text fault) (line_feed ∷ []) rest ∙ ap (λ t. fault_text fault ++ line_feed ∷ t) e)
 
-  pub word_told : {T E : Type 0} (r : Result T E) (new : List ℕ) → is_of_word fault.code ≡ true → OnOk r (new ≡ mid ++ word_lines items fault.place) → OnOk r (new ≡ old ++ fault_lines items fault)
+  pub word_told : {T E : Type 0} (r : Result T E) (new : List ℕ) → is_of_word fault.code ≡ true → OnOk r (new ≡ mid ++ word_lines items fault.place) → OnOk r (new ≡ old ++ refused_fault_lines items fault)
   word_told r new e h =
       subst (λ t. OnOk r (new ≡ t))
       (lines-are (word_lines items fault.place) (sym (ap (λ (b : Bool). if b then word_lines items fault.place else place_lines items fault.place) e))) h
 
-  pub place_told : {T E : Type 0} (r : Result T E) (new : List ℕ) → is_of_word fault.code ≡ false → OnOk r (new ≡ mid ++ place_lines items fault.place) → OnOk r (new ≡ old ++ fault_lines items fault)
+  pub place_told : {T E : Type 0} (r : Result T E) (new : List ℕ) → is_of_word fault.code ≡ false → OnOk r (new ≡ mid ++ place_lines items fault.place) → OnOk r (new ≡ old ++ refused_fault_lines items fault)
   place_told r new e h =
       subst (λ t. OnOk r (new ≡ t))
       (lines-are (place_lines items fault.place) (sym (ap (λ (b : Bool). if b then word_lines items fault.place else place_lines items fault.place) e))) h
 
-  pub none_told : is_of_word fault.code ≡ false → HasFaultyBody items → mid ≡ old ++ fault_lines items fault
+  pub none_told : is_of_word fault.code ≡ false → HasFaultyBody items → mid ≡ old ++ refused_fault_lines items fault
   none_told e refused =
       sym (append-nil mid) ∙ ap (λ t. mid ++ t) (place-refused items fault.place refused)
       ∙ lines-are (place_lines items fault.place) (sym (ap (λ (b : Bool). if b then word_lines items fault.place else place_lines items fault.place) e))
@@ -87,8 +89,8 @@ module _ (items : List Item) (fault : Fault) (old mid : List ℕ) (first : mid �
 
 pub nothing_told : (s : SourceParts) (f : Option Fault) → f ≡ fault_of (source_check s) → f ≡ None → [] ≡ refusal_text s
 unfolding refusal_text
-nothing_told s f e none = sym (ap (lines_of s.items) (sym e ∙ none))
+nothing_told s f e none = sym (ap (told_lines s.items) (sym e ∙ none))
 
-pub fault_told : (s : SourceParts) (f : Option Fault) (fault : Fault) → f ≡ fault_of (source_check s) → f ≡ Some fault → fault_lines s.items fault ≡ refusal_text s
+pub fault_told : (s : SourceParts) (f : Option Fault) (fault : Fault) → f ≡ fault_of (source_check s) → f ≡ Some fault → refused_fault_lines s.items fault ≡ refusal_text s
 unfolding refusal_text
-fault_told s f fault e some = sym (ap (lines_of s.items) (sym e ∙ some))
+fault_told s f fault e some = sym (ap (told_lines s.items) (sym e ∙ some))

@@ -23,12 +23,12 @@ abbrev pub subr_of : ℕ → List Item → Option Item
 subr_of number items = find (is_subr number) items
 
 -- profile, queries: the words of an entry, where there is one
-abbrev pub words_of : Option Item → List (List ℕ)
-words_of None = []
-words_of (Some item) = entry_words item
+abbrev pub words_of_found : Option Item → List (List ℕ)
+words_of_found None = []
+words_of_found (Some item) = entry_words item
 
 -- profile, refusals: the words of the entry at a place; none where the place is no entry's
-abbrev pub place_words : List Item → Place → List (List ℕ)
-place_words items (places.Subr number) = words_of (subr_of number items)
-place_words items (places.Glyph name) = words_of (glyph_named name items)
-place_words items place = []
+abbrev pub words_at_place : List Item → Place → List (List ℕ)
+words_at_place items (places.Subr number) = words_of_found (subr_of number items)
+words_at_place items (places.Glyph name) = words_of_found (glyph_named name items)
+words_at_place items place = []

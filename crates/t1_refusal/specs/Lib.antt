@@ -1,3 +1,4 @@
+pub mod Bodies
 pub mod Entries
 pub mod Met
 pub mod Telling

@@ -3,8 +3,8 @@ ghost use Rattle.std.specs.Prelude.{◌≡◌, option_map};
 ghost use Rattle.std.specs.List.{find};
 ghost use Rattle.t1_frac.specs.Words.{words};
 ghost use Rattle.t1_parts.specs.Entries.{is_glyph, is_subr};
-ghost use Rattle.t1_refusal.specs.Entries.{entry_words, glyph_named, place_words, subr_of};
-ghost use Rattle.t1_refusal.specs.Entries.{words_of};
+ghost use Rattle.t1_refusal.specs.Entries.{entry_words, glyph_named, words_at_place, subr_of};
+ghost use Rattle.t1_refusal.specs.Entries.{words_of_found};
 
 use t1_frac::Place;
 use t1_parts::Items;
@@ -60,7 +60,7 @@ pub fn entry_words<'i>(item: &'i Item) -> &'i [u8]
 
 /// The same, where there is an item.
 pub(crate) fn words_of<'i>(item: Option<&'i Item>) -> &'i [u8]
-    ensures { words result.now ≡ words_of (option_map (λ i. i.now) item.entry) }
+    ensures { words result.now ≡ words_of_found (option_map (λ i. i.now) item.entry) }
 {
     match item {
         Some(item) => entry_words(item),
@@ -70,7 +70,7 @@ pub(crate) fn words_of<'i>(item: Option<&'i Item>) -> &'i [u8]
 
 /// Bytes whose words are those of the entry at a place.
 pub(crate) fn place_words<'i>(items: &'i Items, place: &Place) -> &'i [u8]
-    ensures { words result.now ≡ place_words items.now place.now }
+    ensures { words result.now ≡ words_at_place items.now place.now }
 {
     match place {
         Place::Subr(number) => words_of(subr_of(items, *number)),

@@ -1,7 +1,9 @@
 //! The glyph whose own run fails, among a glyph and the parts that it stands on.
 ghost use Rattle.std.specs.Prelude.{◌≡◌, option_map, IfOk};
 ghost use Rattle.t1_run.specs.Run.{font, own};
-ghost use Rattle.t1_refusal.specs.Met.{failed, met_within, parts_of, seen_of};
+ghost use Rattle.t1_refusal.specs.Met.{failed, met_within};
+ghost use Rattle.t1_chain.specs.GlyphFailures.{parts_found};
+ghost use Rattle.t1_refusal.specs.Bodies.{seen_of};
 
 use std::alloc::{AllocError, Global};
 use t1_chain::{Failure, failure_of};
@@ -44,7 +46,7 @@ fn parts_of<B: StoredBodies>(
 ) -> Result<Option<Composite>, AllocError>
     ensures { IfOk result
         (λ parts.
-        parts ≡ parts_of (own (font (B.subrs bodies.now) (B.glyphs bodies.now)) name.now)) }
+        parts ≡ parts_found (own (font (B.subrs bodies.now) (B.glyphs bodies.now)) name.now)) }
 {
     let Some(body) = bodies.glyph(name) else {
         return Ok(None);

@@ -2,9 +2,9 @@
 ghost use Rattle.std.specs.Prelude.{◌≡◌, ◌++◌, IfOk, OnOk};
 ghost use Rattle.t1_run.specs.Run.{font};
 ghost use Rattle.t1_font.specs.SourceChecks.{source_check};
-ghost use Rattle.t1_refusal.specs.Telling.{fault_lines, fault_of, glyph_lines, is_of_word};
-ghost use Rattle.t1_refusal.specs.Telling.{place_lines, refusal_text, word_lines, AreBodiesOf};
-ghost use Rattle.t1_refusal.specs.Telling.{HasFaultyBody};
+ghost use Rattle.t1_refusal.specs.Telling.{refused_fault_lines, fault_of, glyph_lines, is_of_word};
+ghost use Rattle.t1_refusal.specs.Telling.{place_lines, refusal_text, word_lines};
+ghost use Rattle.t1_refusal.specs.Bodies.{AreBodiesOf, HasFaultyBody};
 
 use crate::entries::place_words;
 use crate::met::met_within;
@@ -98,7 +98,8 @@ fn push_lines<B: StoredBodies>(
     fault: &Fault,
 ) -> Result<(), AllocError>
     requires { AreBodiesOf (font (B.subrs bodies.now) (B.glyphs bodies.now)) items.now }
-    ensures { OnOk result (text.new.items ≡ text.old.items ++ fault_lines items.now fault.now) }
+    ensures { OnOk result
+        (text.new.items ≡ text.old.items ++ refused_fault_lines items.now fault.now) }
 {
     push_fault(text, fault)?;
     if is_of_word(fault.code) {
@@ -115,7 +116,8 @@ fn push_word_lines(
     fault: &Fault,
 ) -> Result<(), AllocError>
     requires { HasFaultyBody items.now }
-    ensures { OnOk result (text.new.items ≡ text.old.items ++ fault_lines items.now fault.now) }
+    ensures { OnOk result
+        (text.new.items ≡ text.old.items ++ refused_fault_lines items.now fault.now) }
 {
     push_fault(text, fault)?;
     if is_of_word(fault.code) {
@@ -134,7 +136,7 @@ pub fn run_fault_text<B: StoredBodies>(
     fault: &Fault,
 ) -> Result<Vec<u8>, AllocError>
     requires { AreBodiesOf (font (B.subrs bodies.now) (B.glyphs bodies.now)) items.now }
-    ensures { IfOk result (λ text. text.items ≡ fault_lines items.now fault.now) }
+    ensures { IfOk result (λ text. text.items ≡ refused_fault_lines items.now fault.now) }
 {
     let mut text = Vec::new(alloc);
     push_lines(alloc, &mut text, items, bodies, fault)?;
@@ -145,7 +147,7 @@ pub fn run_fault_text<B: StoredBodies>(
 /// that has it. Nothing is run.
 pub fn body_fault_text(alloc: Global, items: &Items, fault: &Fault) -> Result<Vec<u8>, AllocError>
     requires { HasFaultyBody items.now }
-    ensures { IfOk result (λ text. text.items ≡ fault_lines items.now fault.now) }
+    ensures { IfOk result (λ text. text.items ≡ refused_fault_lines items.now fault.now) }
 {
     let mut text = Vec::new(alloc);
     push_word_lines(alloc, &mut text, items, fault)?;
@@ -154,7 +156,7 @@ pub fn body_fault_text(alloc: Global, items: &Items, fault: &Fault) -> Result<Ve
 
 /// The lines of a fault of a source, all of whose bodies are compiled.
 fn fault_text(alloc: Global, items: &Items, fault: &Fault) -> Result<Vec<u8>, AllocError>
-    ensures { IfOk result (λ text. text.items ≡ fault_lines items.now fault.now) }
+    ensures { IfOk result (λ text. text.items ≡ refused_fault_lines items.now fault.now) }
 {
     match compiled(alloc, items) {
         Ok(bodies) => run_fault_text(alloc, items, &bodies, fault),

@@ -1,7 +1,7 @@
 //! The way of a run to its fault: the glyph, and the Subrs that it had entered.
 ghost use Rattle.std.specs.Prelude.{◌≡◌, ◌++◌, flat_map, OnOk};
 ghost use Rattle.t1_frac.specs.Words.{words};
-ghost use Rattle.t1_refusal.specs.Met.{seen_of};
+ghost use Rattle.t1_refusal.specs.Bodies.{seen_of};
 ghost use Rattle.t1_refusal.specs.Telling.{call_text, entered_words, last_call, met_lines};
 ghost use Rattle.t1_refusal.specs.Telling.{way_line};
 

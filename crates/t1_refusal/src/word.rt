@@ -2,7 +2,7 @@
 ghost use Rattle.std.specs.Prelude.{◌≡◌, ◌∷◌, ◌++◌, [], option_map, IfOk, OnOk};
 ghost use Rattle.t1_frac.specs.Words.{words};
 ghost use Rattle.t1_code.specs.Words.{command_of_word};
-ghost use Rattle.t1_refusal.specs.Telling.{faulty_from, says, word_at, word_line};
+ghost use Rattle.t1_refusal.specs.Telling.{faulty_from, says, word_in_body, word_line};
 
 use std::alloc::{AllocError, Global};
 use t1_code::{Command, compile_onto};
@@ -43,7 +43,7 @@ pub(crate) fn faulty_word(alloc: Global, body: &[u8]) -> Result<Option<(usize, &
 
 /// The word of a body at a place among them, from 0, with its number, from 1.
 pub(crate) fn word_at(body: &[u8], at: usize) -> Option<(usize, &[u8])>
-    ensures { option_map (λ w. (w.0, w.1.now)) result ≡ word_at at (words body.now) }
+    ensures { option_map (λ w. (w.0, w.1.now)) result ≡ word_in_body at (words body.now) }
 {
     let mut left = at;
     let mut number = 1;

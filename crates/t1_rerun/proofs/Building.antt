@@ -16,17 +16,18 @@ use Rattle.t1_run.specs.Run.{FontBodies, Key, Subr, Glyph, body_at}
 use Rattle.t1_extent.specs.Kept.{TracedRun}
 use Rattle.t1_run.specs.Touched.{is_user}
 use Rattle.t1_font.specs.declared.glyph_metrics.GlyphMetrics.{GlyphMetrics}
-use Rattle.t1_font.specs.Bodies.{subr_body_kept, glyph_body_kept, SameBodies}
+use Rattle.t1_font.specs.KeptBodies.{subr_body_kept, glyph_body_kept, SameBodies}
 use Rattle.t1_font.specs.Runs.{NamedRun as KeptRun, run_kept, drawing_in as run_of}
 use Rattle.t1_cache.specs.declared.records.Records.{Records}
 use Rattle.t1_cache.specs.Bodies.{glyph_body, record_bodies}
 use Rattle.t1_cache.specs.Changed.{SetsBody}
 use Rattle.t1_cache.specs.Joins.{AreLeaves}
 use Rattle.t1_cache.specs.Laws.{AreDistinct}
-use Rattle.t1_cache.specs.Renewed.{kept, kept_of}
+use Rattle.t1_cache.specs.Renewed.{kept}
+use Rattle.t1_cache.specs.Recorded.{kept_of}
 use Rattle.t1_cache.specs.Room.{MayJoin}
 use Rattle.t1_cache.specs.Tables.{AreTables}
-use Rattle.t1_cache.specs.Users.{has_name, has_pair, lists, rest_of, users_at, wanted, HasUserRoom, Pairs}
+use Rattle.t1_cache.specs.Users.{has_name, has_pair, lists, rest_of, users_at, pairs_of_key, HasUserRoom, Pairs}
 use Rattle.t1_cache.proofs.Changing.{rest_same}
 use Rattle.t1_cache.proofs.Joining.{tables_first}
 use Rattle.t1_cache.proofs.Names.{bytes_equiv}
@@ -282,7 +283,7 @@ module _ (m : FontBodies) (names : List (Bor (List ℕ))) (runs : List KeptRun) 
   is-named g body e = has-names names g ∙ ap (list_any (bytes_eq g)) named ∙ sym (are.bodies g) ∙ ap is_some e
 
   pub room-there : (records roomy : Records) → SameBodies (record_bodies records) m → rest_of roomy ≡ rest_of records
-      → ((k : Key) → MayJoin (wanted joins k) (users_at roomy k)) → (k : Key) → HasUserRoom (wanted joins k) (users_at roomy k)
+      → ((k : Key) → MayJoin (pairs_of_key joins k) (users_at roomy k)) → (k : Key) → HasUserRoom (pairs_of_key joins k) (users_at roomy k)
   room-there records roomy compiled rest may =
       room_for_joins m (has_name (λ name. name.now) names) joins are-joins roomy (same-twice (record_bodies roomy) (record_bodies records) m (rest_same records roomy rest).0 compiled) may
 

@@ -13,17 +13,20 @@ use Rattle.t1_run.specs.Run.{FontBodies, Key, Glyph, own, body_at, key_eq}
 use Rattle.t1_extent.specs.Kept.{TracedRun}
 use Rattle.t1_run.specs.Touched.{is_key_of, is_met, is_named, is_touched, is_user}
 use Rattle.t1_afm.specs.declared.bbox.BBox.{BBox}
-use Rattle.t1_font.specs.Bodies.{bodies, SameBodies}
+use Rattle.t1_font.specs.Bodies.{bodies}
+use Rattle.t1_font.specs.KeptBodies.{SameBodies}
 use Rattle.t1_font.specs.Glyphs.{glyph_names}
 use Rattle.t1_cache.specs.declared.records.Named.{Named}
 use Rattle.t1_cache.specs.declared.records.Named.TheVariants as named
 use Rattle.t1_cache.specs.declared.records.Records.{Records}
 use Rattle.t1_cache.specs.declared.records.Rerun.{Rerun}
 use Rattle.t1_cache.specs.Bodies.{record_bodies}
-use Rattle.t1_cache.specs.Renewal.{IsOneOf, kept_by}
-use Rattle.t1_cache.specs.Renewed.{Kept, kept, kept_of, rerun_of, reruns_by_name, with_rerun, with_reruns}
+use Rattle.t1_cache.specs.Renewal.{kept_by}
+use Rattle.t1_cache.specs.Recorded.{IsOneOf, Kept, kept_of}
+use Rattle.t1_cache.specs.Renewed.{kept, rerun_of, reruns_by_name, with_rerun, with_reruns}
 use Rattle.t1_cache.specs.Room.{MayJoin}
-use Rattle.t1_cache.specs.Users.{among, has_pair, key_of, lists, rest_of, users_at, wanted, HasUserRoom}
+use Rattle.t1_cache.specs.Users.{among, has_pair, lists, rest_of, users_at, pairs_of_key, HasUserRoom}
+use Rattle.t1_cache.specs.EditKeys.{key_of}
 use Rattle.t1_font.proofs.Keys.{key-itself, key-same, at-same, same-at}
 use Rattle.t1_cache.proofs.Changing.{rest_same}
 use Rattle.t1_cache.proofs.Judging.{unnamed}
@@ -116,7 +119,7 @@ module _ (changes : List EntryChange) (old new : SourceParts) (before : Records)
   run = new_run reruns
 
   abbrev count : Key → ℕ
-  count = wanted renewal.joins.items
+  count = pairs_of_key renewal.joins.items
 
   abbrev steps : List Step
   steps = done.steps.items
@@ -180,9 +183,9 @@ module _ (changes : List EntryChange) (old new : SourceParts) (before : Records)
     mid-bodies : SameBodies (record_bodies mid) n
     mid-bodies k = same-at (record_bodies mid) n k (ap (λ x. x.bodies k) seen-mid ∙ stepped-body k)
 
-    pub room-mid : (k : Key) → HasUserRoom (wanted done.joins.items k) (users_at mid k)
+    pub room-mid : (k : Key) → HasUserRoom (pairs_of_key done.joins.items k) (users_at mid k)
     room-mid k =
-        subst (λ l. HasUserRoom (wanted l k) (users_at mid k)) (sym is.joins)
+        subst (λ l. HasUserRoom (pairs_of_key l k) (users_at mid k)) (sym is.joins)
         (room_for_joins n j.renewed.found renewal.joins.items j.renewed.joins mid mid-bodies
         (λ q. subst (λ x. MayJoin (count q) (x.users q)) (sym seen-mid) (may-join-stepped run count before changes steps is.steps (seen before) q (is.users q))) k)
 

@@ -20,7 +20,8 @@ use Rattle.t1_source.specs.Editing.{number_up_to, replaced_subr, added_subr, rem
 use Rattle.t1_source.specs.WellFormed.{IsWellFormed}
 use Rattle.t1_source.proofs.WellFormedEditedLaws.{source_given}
 use Rattle.t1_font.specs.Glyphs.{glyph_names}
-use Rattle.t1_cache.specs.Edited.{named, names_after, subr_key}
+use Rattle.t1_cache.specs.Edited.{names_after}
+use Rattle.t1_cache.specs.EditKeys.{named, subr_key}
 use Rattle.t1_cache.specs.Laws.{AreDistinct}
 use Rattle.t1_cache.proofs.Distinct.{names_distinct}
 use Rattle.t1_cache.proofs.EditedNames.{names_edited}

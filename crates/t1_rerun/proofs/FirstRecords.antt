@@ -21,10 +21,13 @@ use Rattle.t1_run.specs.Touched.{is_user}
 use Rattle.t1_run.proofs.Agreeing.{own_same}
 use Rattle.t1_font.specs.declared.glyph_metrics.GlyphMetrics.{GlyphMetrics}
 use Rattle.t1_font.specs.Assembly.{file_check}
-use Rattle.t1_font.specs.Bodies.{bodies, bodies_check, SameBodies}
+use Rattle.t1_font.specs.Bodies.{bodies, bodies_check}
+use Rattle.t1_font.specs.KeptBodies.{SameBodies}
 use Rattle.t1_font.specs.Glyphs.{Glyph as Reported, glyphs, glyphs_by, glyph_names}
-use Rattle.t1_font.specs.MeasuredGlyphs.{glyph_metrics, glyph_metrics_among}
-use Rattle.t1_font.specs.Runs.{NamedRun as KeptRun, drawing_kept, run_kept, drawing_in as run_of, own_among, counted, AreTraced, Counts, CountsSome, IsNumberedAfter, IsTracedAs}
+use Rattle.t1_font.specs.MeasuredGlyphs.{glyph_metrics}
+use Rattle.t1_font.specs.MetricsByRuns.{glyph_metrics_among}
+use Rattle.t1_font.specs.Runs.{NamedRun as KeptRun, drawing_kept, run_kept, drawing_in as run_of, own_among, AreTraced, Counts, CountsSome, IsNumberedAfter, IsTracedAs}
+use Rattle.t1_font.specs.RunCounts.{counted}
 use Rattle.t1_font.specs.SourceChecks.{source_check}
 use Rattle.t1_font.proofs.GlyphsOfSource.{check-by-glyphs}
 use Rattle.t1_font.proofs.Counted.{counted-source}
@@ -32,13 +35,13 @@ use Rattle.t1_font.proofs.Measuring.{keeps-own, names-there, KeepsOwn, outline-i
 use Rattle.t1_cache.specs.declared.records.Records.{Records}
 use Rattle.t1_cache.specs.Bodies.{record_bodies}
 use Rattle.t1_cache.specs.Laws.{fault_check, AreDistinct}
-use Rattle.t1_cache.specs.Renewal.{IsFromScratch}
-use Rattle.t1_cache.specs.Renewed.{Kept, kept_of}
+use Rattle.t1_cache.specs.Recorded.{IsFromScratch, Kept, kept_of}
 use Rattle.t1_cache.specs.Tables.{AreTables}
 use Rattle.t1_cache.proofs.Distinct.{names_distinct}
 use Rattle.t1_cache.proofs.Renewing.{shown-all}
 use Rattle.t1_cache.proofs.Lists.{all-weaken, all-at}
-use Rattle.t1_rerun.specs.Opened.{measured_names, opening_runs, runs_where, AreMeasured, IsRecorded, IsRunAfter}
+use Rattle.t1_rerun.specs.Opened.{measured_names, opening_runs, runs_where, AreMeasured, IsRecorded}
+use Rattle.t1_rerun.specs.RunNumbers.{IsRunAfter}
 use Rattle.t1_rerun.specs.Renewals.{HasRun}
 use Rattle.t1_rerun.specs.Right.{IsRight}
 use Rattle.t1_rerun.proofs.Steps.{same-twice}

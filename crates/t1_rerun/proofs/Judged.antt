@@ -14,9 +14,9 @@ use Rattle.t1_cache.specs.declared.records.Records.{Records}
 use Rattle.t1_cache.specs.Bodies.{record_bodies}
 use Rattle.t1_cache.specs.declared.records.Rerun.{Rerun}
 use Rattle.t1_cache.specs.Kept.{KeepsAll}
-use Rattle.t1_cache.specs.Renewal.{IsOneOf, kept_by}
-use Rattle.t1_cache.specs.Renewed.{Kept}
-use Rattle.t1_rerun.specs.Opened.{IsRunAfter}
+use Rattle.t1_cache.specs.Renewal.{kept_by}
+use Rattle.t1_cache.specs.Recorded.{IsOneOf, Kept}
+use Rattle.t1_rerun.specs.RunNumbers.{IsRunAfter}
 use Rattle.t1_rerun.specs.Renewals.{IsLater}
 use Rattle.t1_rerun.specs.Renewing.{IsRunWhereStale}
 use Rattle.t1_rerun.specs.Right.{IsRight}

@@ -10,14 +10,16 @@ use Rattle.t1_run.specs.Run.{Key, Subr, Glyph, body_at, key_eq}
 use Rattle.t1_run.specs.Touched.{is_key_of}
 use Rattle.t1_cache.specs.declared.records.Records.{Records}
 use Rattle.t1_cache.specs.Bodies.{record_bodies}
-use Rattle.t1_cache.specs.Renewed.{Kept, kept, kept_of}
-use Rattle.t1_cache.specs.Users.{has_name, is_key_among, key_of, users_at}
+use Rattle.t1_cache.specs.Renewed.{kept}
+use Rattle.t1_cache.specs.Recorded.{Kept, kept_of}
+use Rattle.t1_cache.specs.Users.{has_name, is_key_among, users_at}
+use Rattle.t1_cache.specs.EditKeys.{key_of}
 use Rattle.t1_cache.proofs.Filtering.{filter-all, filter-both, filter-same}
 use Rattle.t1_font.proofs.Lookups.{bytes_tell, bytes-turned}
 use Rattle.t1_font.proofs.Keys.{glyph-key}
 use Rattle.t1_rerun.specs.declared.settling.steps.Step.{Step}
 use Rattle.t1_rerun.specs.declared.settling.steps.Step.TheVariants as steps
-use Rattle.t1_rerun.specs.Steps.{after, after_all, seen, step_body, step_kept, step_key, step_users, takes_out, AreTakenOut, Seen}
+use Rattle.t1_rerun.specs.Steps.{seen_after, after_all, seen, step_body, step_kept, step_key, step_users, takes_out, AreTakenOut, Seen}
 
 -- ---- seen alike but for some glyphs
 
@@ -89,7 +91,7 @@ kept-after p (steps.InsertGlyph name r) xs ys same = each ys ∙ ap (λ l. l ++ 
       (filter-same (λ k. not (bytes_eq name.items k.name)) (λ k. not (bytes_eq k.name name.items)) ks (λ k. ap not (bytes-turned name.items k.name)))
 
 -- after a step they are alike but for those that it doesn't take out
-alike-after : (p : List ℕ → Bool) (step : Step) (x y : Seen) → Alike p x y → Alike (still p step) (after step x) (after step y)
+alike-after : (p : List ℕ → Bool) (step : Step) (x y : Seen) → Alike p x y → Alike (still p step) (seen_after step x) (seen_after step y)
 alike-after p step x y a = record {
   bodies = λ k off. body k off (key_eq k (step_key step)) refl;
   users = λ k off. user k off (key_eq k (step_key step)) refl;

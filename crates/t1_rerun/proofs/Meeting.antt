@@ -14,7 +14,8 @@ use Rattle.t1_run.specs.Run.{FontBodies, Key, Glyph, Drawing, own, own_of}
 use Rattle.t1_run.specs.Touched.{is_named, meets_run, meets_parts, touched_within, is_touched, AreStale}
 use Rattle.t1_run.proofs.Agreeing.{own_same}
 use Rattle.t1_run.proofs.FoundByUsers.{found_are_touched}
-use Rattle.t1_font.specs.Bodies.{bodies, glyph_among, SameBodies}
+use Rattle.t1_font.specs.Bodies.{bodies, glyph_among}
+use Rattle.t1_font.specs.KeptBodies.{SameBodies}
 use Rattle.t1_font.specs.Glyphs.{Glyph as Reported, glyph_names}
 use Rattle.t1_font.specs.SourceChecks.{source_glyphs}
 use Rattle.t1_run.proofs.Asked.{bytes_self}
@@ -22,7 +23,8 @@ use Rattle.t1_font.proofs.Measuring.{own-none}
 use Rattle.t1_cache.specs.declared.records.Records.{Records}
 use Rattle.t1_cache.specs.Edited.{IsEditedAt, is_stale, stale}
 use Rattle.t1_cache.specs.Kept.{without_serial, shown_from}
-use Rattle.t1_cache.specs.Renewed.{kept_of, recorded_run}
+use Rattle.t1_cache.specs.Renewed.{recorded_run}
+use Rattle.t1_cache.specs.Recorded.{kept_of}
 use Rattle.t1_cache.proofs.Drawing.{all_draw}
 use Rattle.t1_cache.proofs.Newest.{found as at-glyph, newest_drawn, not-key}
 use Rattle.t1_cache.proofs.Recorded.{runs_recorded}

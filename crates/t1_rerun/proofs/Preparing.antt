@@ -10,7 +10,8 @@ use Rattle.std.specs.declared.vec.Vec.{Vec}
 use Rattle.std.proofs.lemmas.List.Folds.{find-append}
 use Rattle.t1_code.specs.declared.command.Command.{Command}
 use Rattle.t1_parts.specs.SourceParts.{SourceParts}
-use Rattle.t1_font.specs.Bodies.{bodies, SameBodies}
+use Rattle.t1_font.specs.Bodies.{bodies}
+use Rattle.t1_font.specs.KeptBodies.{SameBodies}
 use Rattle.t1_run.specs.Run.{Key, Subr, Glyph, body_at, key_eq}
 use Rattle.t1_extent.specs.Kept.{TracedRun}
 use Rattle.t1_afm.specs.declared.bbox.BBox.{BBox}
@@ -22,8 +23,10 @@ use Rattle.t1_cache.specs.declared.records.Rerun.{Rerun}
 use Rattle.t1_cache.specs.Bodies.{glyph_body, record_bodies, subr_body}
 use Rattle.t1_cache.specs.Changed.{AreSameRecords}
 use Rattle.t1_cache.specs.Kept.{KeepsAll}
-use Rattle.t1_cache.specs.Renewed.{kept_of, rerun_of, reruns_by_name}
-use Rattle.t1_cache.specs.Users.{among, glyph_users, key_of, subr_users, users_at}
+use Rattle.t1_cache.specs.Renewed.{rerun_of, reruns_by_name}
+use Rattle.t1_cache.specs.Recorded.{kept_of}
+use Rattle.t1_cache.specs.Users.{among, glyph_users, subr_users, users_at}
+use Rattle.t1_cache.specs.EditKeys.{key_of}
 use Rattle.t1_rerun.specs.declared.entry_change.EntryChange.{EntryChange}
 use Rattle.t1_rerun.specs.declared.settling.steps.Step.{Step}
 use Rattle.t1_rerun.specs.declared.settling.steps.Step.TheVariants as steps

@@ -15,16 +15,19 @@ use Rattle.t1_run.specs.Touched.{is_user, AreStale}
 use Rattle.t1_font.specs.declared.glyph_metrics.GlyphMetrics.{GlyphMetrics}
 use Rattle.t1_font.specs.Bodies.{bodies}
 use Rattle.t1_font.specs.Glyphs.{glyph_names}
-use Rattle.t1_font.specs.MeasuredGlyphs.{glyph_metrics_among}
-use Rattle.t1_font.specs.Runs.{NamedRun as KeptRun, run_kept, drawing_in as run_of, own_among, counted, AreTraced, Counts, IsNumberedAfter}
+use Rattle.t1_font.specs.MetricsByRuns.{glyph_metrics_among}
+use Rattle.t1_font.specs.Runs.{NamedRun as KeptRun, run_kept, drawing_in as run_of, own_among, AreTraced, Counts, IsNumberedAfter}
+use Rattle.t1_font.specs.RunCounts.{counted}
 use Rattle.t1_font.specs.SourceChecks.{source_check}
 use Rattle.t1_cache.specs.declared.records.Named.{Named}
 use Rattle.t1_cache.specs.declared.records.Records.{Records}
 use Rattle.t1_cache.specs.declared.records.Rerun.{Rerun}
 use Rattle.t1_cache.specs.Edited.{stale}
-use Rattle.t1_cache.specs.Renewal.{IsFromScratch, kept_by}
+use Rattle.t1_cache.specs.Renewal.{kept_by}
+use Rattle.t1_cache.specs.Recorded.{IsFromScratch}
 use Rattle.t1_cache.specs.Renewed.{recorded_run}
-use Rattle.t1_cache.specs.Users.{has_name, has_pair, key_of}
+use Rattle.t1_cache.specs.Users.{has_name, has_pair}
+use Rattle.t1_cache.specs.EditKeys.{key_of}
 use Rattle.t1_rerun.specs.declared.renewal.Renewal.{Renewal}
 use Rattle.t1_rerun.specs.Newest.{newest_among}
 use Rattle.t1_rerun.specs.Renewals.{rerun_names, IsLater, IsRenewal, IsMeasuredRerun}

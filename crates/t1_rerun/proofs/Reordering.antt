@@ -23,9 +23,11 @@ use Rattle.t1_afm.specs.declared.bbox.BBox.{BBox}
 use Rattle.t1_afm.specs.Box.{drawn_box}
 use Rattle.t1_font.specs.declared.glyph_metrics.GlyphMetrics.{GlyphMetrics}
 use Rattle.t1_font.specs.Assembly.{file_check}
-use Rattle.t1_font.specs.Bodies.{bodies, bodies_check, SameBodies}
+use Rattle.t1_font.specs.Bodies.{bodies, bodies_check}
+use Rattle.t1_font.specs.KeptBodies.{SameBodies}
 use Rattle.t1_font.specs.Glyphs.{Glyph as Reported, glyph_names, glyph_of, glyphs_by}
-use Rattle.t1_font.specs.MeasuredGlyphs.{glyph_metrics, glyph_metrics_among}
+use Rattle.t1_font.specs.MeasuredGlyphs.{glyph_metrics}
+use Rattle.t1_font.specs.MetricsByRuns.{glyph_metrics_among}
 use Rattle.t1_font.specs.Runs.{NamedRun as KeptRun, drawing_in as run_of, own_among, AreTraced}
 use Rattle.t1_font.specs.SourceChecks.{source_check}
 use Rattle.t1_font.proofs.LengthLaws.{body_fault_reported}
@@ -36,7 +38,8 @@ use Rattle.t1_cache.specs.declared.records.Rerun.{Rerun}
 use Rattle.t1_cache.specs.Edited.{stale}
 use Rattle.t1_cache.specs.Laws.{AreDistinct}
 use Rattle.t1_cache.specs.Renewed.{recorded_run}
-use Rattle.t1_cache.specs.Users.{has_name, has_pair, key_of}
+use Rattle.t1_cache.specs.Users.{has_name, has_pair}
+use Rattle.t1_cache.specs.EditKeys.{key_of}
 use Rattle.t1_cache.proofs.Counting.{found_count}
 use Rattle.t1_cache.proofs.Lists.{all-weaken, all-at}
 use Rattle.t1_font.proofs.Lookups.{bytes_tell}

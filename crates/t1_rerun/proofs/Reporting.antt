@@ -24,9 +24,10 @@ use Rattle.t1_frac.specs.declared.fault.Refusal.{Refusal}
 use Rattle.t1_frac.specs.declared.fault.Refusal.TheVariants as refusals
 use Rattle.t1_frac.specs.Outcome.{reported_at, ◌>>=◌, Refuses}
 use Rattle.t1_font.specs.declared.glyph_metrics.GlyphMetrics.{GlyphMetrics}
-use Rattle.t1_font.specs.MeasuredGlyphs.{glyph_metrics, glyph_metrics_by, measured, MeasuredFont}
+use Rattle.t1_font.specs.MeasuredGlyphs.{glyph_metrics, measured, MeasuredFont}
+use Rattle.t1_font.specs.MetricsByRuns.{glyph_metrics_by}
 use Rattle.t1_cache.specs.declared.records.GlyphRecord.{GlyphRecord}
-use Rattle.t1_cache.specs.Renewed.{Kept, kept_of}
+use Rattle.t1_cache.specs.Recorded.{Kept, kept_of}
 use Rattle.t1_rerun.specs.Measured.{kept_metrics}
 
 abbrev Entries : Type 0

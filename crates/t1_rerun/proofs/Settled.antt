@@ -11,7 +11,8 @@ use Rattle.t1_run.specs.Composite.{outline}
 use Rattle.t1_run.specs.Run.{FontBodies, Key, own}
 use Rattle.t1_run.specs.Touched.{is_user}
 use Rattle.t1_frac.specs.declared.fault.Code.{Code}
-use Rattle.t1_font.specs.Bodies.{bodies, SameBodies}
+use Rattle.t1_font.specs.Bodies.{bodies}
+use Rattle.t1_font.specs.KeptBodies.{SameBodies}
 use Rattle.t1_font.specs.Glyphs.{Glyph as Reported, glyph_of, glyph_names}
 use Rattle.t1_font.specs.SourceChecks.{source_glyphs, source_check}
 use Rattle.t1_font.proofs.GlyphsOfSource.{check-by-glyphs}
@@ -21,8 +22,9 @@ use Rattle.t1_cache.specs.Bodies.{record_bodies}
 use Rattle.t1_cache.specs.Edited.{is_stale, stale, IsEditedAt}
 use Rattle.t1_cache.specs.Kept.{KeepsAll}
 use Rattle.t1_cache.specs.Laws.{fault_check}
-use Rattle.t1_cache.specs.Renewal.{IsFromScratch, IsOneOf, IsRenewed, kept_by}
-use Rattle.t1_cache.specs.Renewed.{Kept, kept_of, rerun_of, with_rerun}
+use Rattle.t1_cache.specs.Renewal.{IsRenewed, kept_by}
+use Rattle.t1_cache.specs.Recorded.{IsFromScratch, IsOneOf, Kept, kept_of}
+use Rattle.t1_cache.specs.Renewed.{rerun_of, with_rerun}
 use Rattle.t1_cache.specs.Users.{has_pair, lists}
 use Rattle.t1_cache.proofs.Drawing.{all_draw}
 use Rattle.t1_cache.proofs.Joining.{run_kept, moved}

@@ -19,9 +19,11 @@ use Rattle.t1_cache.specs.declared.records.Named.{Named}
 use Rattle.t1_cache.specs.declared.records.Named.TheVariants as named
 use Rattle.t1_cache.specs.declared.records.Records.{Records}
 use Rattle.t1_cache.specs.Bodies.{record_bodies}
-use Rattle.t1_cache.specs.Renewed.{Kept, kept}
+use Rattle.t1_cache.specs.Renewed.{kept}
+use Rattle.t1_cache.specs.Recorded.{Kept}
 use Rattle.t1_cache.specs.Room.{MayJoin}
-use Rattle.t1_cache.specs.Users.{among, has_name, key_of, users_of, UserSet}
+use Rattle.t1_cache.specs.Users.{among, has_name, users_of, UserSet}
+use Rattle.t1_cache.specs.EditKeys.{key_of}
 use Rattle.t1_font.proofs.Keys.{key-same, glyph-key}
 use Rattle.t1_cache.proofs.Lists.{all-weaken, all-last}
 use Rattle.t1_cache.proofs.Filtering.{filter-all, filter-both}
@@ -31,13 +33,13 @@ use Rattle.t1_rerun.specs.declared.settling.steps.Step.{Step}
 use Rattle.t1_rerun.specs.declared.settling.steps.Step.TheVariants as steps
 use Rattle.t1_rerun.specs.Right.{has_glyph}
 use Rattle.t1_rerun.specs.Settled.{changed_keys, last_glyph, last_glyphs, was_moved, AreDistinctKeys}
-use Rattle.t1_rerun.specs.Steps.{after, after_all, inserts, is_last, some_inserts, step_body, step_key, step_kept, step_users, AreStepsOf, IsStepOf, LacksRun, Seen}
+use Rattle.t1_rerun.specs.Steps.{seen_after, after_all, inserts, is_last, some_inserts, step_body, step_key, step_kept, step_users, AreStepsOf, IsStepOf, LacksRun, Seen}
 
 -- ---- the last step comes first
 
-pub after-last : (steps : List Step) (step : Step) (x : Seen) → after_all (steps ++ step ∷ []) x ≡ after_all steps (after step x)
+pub after-last : (steps : List Step) (step : Step) (x : Seen) → after_all (steps ++ step ∷ []) x ≡ after_all steps (seen_after step x)
 after-last [] step x = refl
-after-last (s ∷ steps) step x = ap (after s) (after-last steps step x)
+after-last (s ∷ steps) step x = ap (seen_after s) (after-last steps step x)
 
 pub inserts-last : (steps : List Step) (step : Step) (g : List ℕ) → some_inserts (steps ++ step ∷ []) g ≡ (some_inserts steps g || inserts step g)
 inserts-last steps step g =
@@ -113,7 +115,7 @@ module _ (run : List ℕ → Option (TracedRun × Option BBox)) (count : Key →
       let both = or_parts (key_eq k (key_of c.named)) (list_any (key_eq k) (changed_keys cs)) off in
       ap (λ l. (after_all l x).bodies k) h.1.1.0
       ∙ ap (λ y. y.bodies k) (after-last front s x)
-      ∙ apart-bodies cs front h.1.1.1.1 (after s x) k both.1
+      ∙ apart-bodies cs front h.1.1.1.1 (seen_after s x) k both.1
       ∙ ap (λ b. cond b (step_body s (x.bodies k)) (x.bodies k)) (ap (key_eq k) (key-step c s h.1.1.1.0) ∙ both.0)
 
   put-some : (was : Option (List Command)) (body : List Command) → IsSome was → option_map (λ old. body) was ≡ Some body
@@ -137,17 +139,17 @@ module _ (run : List ℕ → Option (TracedRun × Option BBox)) (count : Key →
   bodies-stepped b (c ∷ cs) ss h d served has_name x k was other =
       ap (λ l. (after_all l x).bodies k) h.1.1.0 ∙ ap (λ y. y.bodies k) (after-last h.0 h.1.0 x)
       ∙ by (key_eq k (key_of c.named)) refl
-      (λ e. bodies-stepped b cs h.0 h.1.1.1.1 d.1 served.1 has_name.1 (after h.1.0 x) k (at-step false e ∙ was)
+      (λ e. bodies-stepped b cs h.0 h.1.1.1.1 d.1 served.1 has_name.1 (seen_after h.1.0 x) k (at-step false e ∙ was)
       (λ off. other (ap (λ t. t || list_any (key_eq k) (changed_keys cs)) e ∙ off)))
     where
-      at-step : (on : Bool) → key_eq k (key_of c.named) ≡ on → (after h.1.0 x).bodies k ≡ cond on (step_body h.1.0 (x.bodies k)) (x.bodies k)
+      at-step : (on : Bool) → key_eq k (key_of c.named) ≡ on → (seen_after h.1.0 x).bodies k ≡ cond on (step_body h.1.0 (x.bodies k)) (x.bodies k)
       at-step on e = ap (λ t. cond t (step_body h.1.0 (x.bodies k)) (x.bodies k)) (ap (key_eq k) (key-step c h.1.0 h.1.1.1.0) ∙ e)
 
-      by : (on : Bool) → key_eq k (key_of c.named) ≡ on → (key_eq k (key_of c.named) ≡ false → (after_all h.0 (after h.1.0 x)).bodies k ≡ b k)
-          → (after_all h.0 (after h.1.0 x)).bodies k ≡ b k
+      by : (on : Bool) → key_eq k (key_of c.named) ≡ on → (key_eq k (key_of c.named) ≡ false → (after_all h.0 (seen_after h.1.0 x)).bodies k ≡ b k)
+          → (after_all h.0 (seen_after h.1.0 x)).bodies k ≡ b k
       by true e rest =
           let is = key-same k (key_of c.named) e in
-          apart-bodies cs h.0 h.1.1.1.1 (after h.1.0 x) k (ap (λ j. list_any (key_eq j) (changed_keys cs)) is ∙ d.0)
+          apart-bodies cs h.0 h.1.1.1.1 (seen_after h.1.0 x) k (ap (λ j. list_any (key_eq j) (changed_keys cs)) is ∙ d.0)
           ∙ at-step true e
           ∙ body-step c h.1.0 h.1.1.1.0 served.0 (x.bodies k) (was ∙ ap (body_at (record_bodies records)) is)
           ∙ sym has_name.0 ∙ ap b (sym is)
@@ -169,7 +171,7 @@ module _ (run : List ℕ → Option (TracedRun × Option BBox)) (count : Key →
   may-join-stepped [] ss h x k had = subst (λ l. MayJoin (count k) ((after_all l x).users k)) (sym h) had
   may-join-stepped (c ∷ cs) ss h x k had =
       subst (λ y. MayJoin (count k) (y.users k)) (sym (ap (λ l. after_all l x) h.1.1.0 ∙ after-last h.0 h.1.0 x))
-      (may-join-stepped cs h.0 h.1.1.1.1 (after h.1.0 x) k (may-join-step c h.1.0 h.1.1.1.0 k (x.users k) had (key_eq k (step_key h.1.0)) refl))
+      (may-join-stepped cs h.0 h.1.1.1.1 (seen_after h.1.0 x) k (may-join-step c h.1.0 h.1.1.1.0 k (x.users k) had (key_eq k (step_key h.1.0)) refl))
 
   -- the users at a key are as they were, or a change names the key and it has none
   abbrev pub StayOrGo : List EntryChange → Key → Option UserSet → Option UserSet → Type 0
@@ -187,12 +189,12 @@ module _ (run : List ℕ → Option (TracedRun × Option BBox)) (count : Key →
   users-stepped [] ss h x k = inl (ap (λ l. (after_all l x).users k) h)
   users-stepped (c ∷ cs) ss h x k =
       subst (λ y. StayOrGo (c ∷ cs) k (x.users k) (y.users k)) (sym (ap (λ l. after_all l x) h.1.1.0 ∙ after-last h.0 h.1.0 x))
-      (by (users-stepped cs h.0 h.1.1.1.1 (after h.1.0 x) k) (key_eq k (step_key h.1.0)) refl)
+      (by (users-stepped cs h.0 h.1.1.1.1 (seen_after h.1.0 x) k) (key_eq k (step_key h.1.0)) refl)
     where
       now : Option UserSet
-      now = (after_all h.0 (after h.1.0 x)).users k
+      now = (after_all h.0 (seen_after h.1.0 x)).users k
 
-      first : (on : Bool) → key_eq k (step_key h.1.0) ≡ on → now ≡ (after h.1.0 x).users k
+      first : (on : Bool) → key_eq k (step_key h.1.0) ≡ on → now ≡ (seen_after h.1.0 x).users k
           → (cond on (step_users h.1.0 (x.users k)) (x.users k) ≡ x.users k) ⊎ ((u : List ℕ) → among (cond on (step_users h.1.0 (x.users k)) (x.users k)) u ≡ false)
           → StayOrGo (c ∷ cs) k (x.users k) now
       first on e same (inl stays) = inl (same ∙ ap (λ t. cond t (step_users h.1.0 (x.users k)) (x.users k)) e ∙ stays)
@@ -202,7 +204,7 @@ module _ (run : List ℕ → Option (TracedRun × Option BBox)) (count : Key →
       )
       first false e same (inr none) = inl (same ∙ ap (λ t. cond t (step_users h.1.0 (x.users k)) (x.users k)) e)
 
-      by : StayOrGo cs k ((after h.1.0 x).users k) now → (on : Bool) → key_eq k (step_key h.1.0) ≡ on → StayOrGo (c ∷ cs) k (x.users k) now
+      by : StayOrGo cs k ((seen_after h.1.0 x).users k) now → (on : Bool) → key_eq k (step_key h.1.0) ≡ on → StayOrGo (c ∷ cs) k (x.users k) now
       by (inl same) on e = first on e same (users-step c h.1.0 h.1.1.1.0 k (x.users k) on e)
       by (inr none) on e = inr (or_right (key_eq k (key_of c.named)) (list_any (key_eq k) (changed_keys cs)) none.0, none.1)
 
@@ -302,7 +304,7 @@ module _ (run : List ℕ → Option (TracedRun × Option BBox)) (count : Key →
         let q : List ℕ → Bool = λ g. not (leaves_at c g) in
         ap (λ l. names (after_all l x).kept) h.1.1.0
         ∙ ap (λ y. names y.kept) (after-last h.0 h.1.0 x)
-        ∙ names-stepped cs h.0 h.1.1.1.1 d.1 served.1 (after h.1.0 x)
+        ∙ names-stepped cs h.0 h.1.1.1.1 d.1 served.1 (seen_after h.1.0 x)
         ∙ ap (λ l. filter p l ++ last_glyphs old cs) (names-step c h.1.0 h.1.1.1.0 served.0 x.kept)
         ∙ ap (λ l. l ++ last_glyphs old cs) (filter-append p (filter q (names x.kept)) (last_of c))
         ∙ ap (λ l. (filter p (filter q (names x.kept)) ++ l) ++ last_glyphs old cs) (last-stays c.moved c.body c.named cs d.0)
@@ -362,7 +364,7 @@ module _ (run : List ℕ → Option (TracedRun × Option BBox)) (count : Key →
       subst (λ y. AllByRecursion Q y.kept) (sym (ap (λ l. after_all l x) h.1.1.0 ∙ after-last h.0 h.1.0 x))
       (kept-stepped Q cs h.0 h.1.1.1.1
       (λ name r box on. each name r box (ap (λ l. some_inserts l name) h.1.1.0 ∙ inserts-last h.0 h.1.0 name ∙ or_left (some_inserts h.0 name) (inserts h.1.0 name) on))
-      (after h.1.0 x) (by h.1.0 refl))
+      (seen_after h.1.0 x) (by h.1.0 refl))
     where
       -- of the steps that are left none puts in this glyph
       P : Kept → Type 0

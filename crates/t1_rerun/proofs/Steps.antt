@@ -1,7 +1,7 @@
 -- Records compared by their bodies and users.
 use Rattle.std.proofs.Common.{◌≡◌, ℕ, List, ◌∙◌}
 use Rattle.t1_run.specs.Run.{FontBodies, Key}
-use Rattle.t1_font.specs.Bodies.{SameBodies}
+use Rattle.t1_font.specs.KeptBodies.{SameBodies}
 use Rattle.t1_cache.specs.declared.records.Records.{Records}
 use Rattle.t1_cache.specs.Users.{lists, rest_of}
 use Rattle.t1_cache.proofs.Changing.{rest_same}

@@ -12,7 +12,8 @@ use Rattle.t1_font.specs.Glyphs.{Glyph as Reported}
 use Rattle.t1_cache.specs.declared.records.GlyphRecord.{GlyphRecord}
 use Rattle.t1_cache.specs.declared.records.Records.{Records}
 use Rattle.t1_cache.specs.Kept.{keep_traces, without_serial, shown_from}
-use Rattle.t1_cache.specs.Renewed.{Kept, kept_of, record_of}
+use Rattle.t1_cache.specs.Renewed.{record_of}
+use Rattle.t1_cache.specs.Recorded.{Kept, kept_of}
 use Rattle.t1_rerun.specs.Right.{IsRight}
 use Rattle.t1_run.proofs.Asked.{bytes_same}
 

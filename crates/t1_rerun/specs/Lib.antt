@@ -6,5 +6,6 @@ pub mod Opened
 pub mod Renewals
 pub mod Renewing
 pub mod Right
+pub mod RunNumbers
 pub mod Settled
 pub mod Steps

@@ -3,8 +3,8 @@ use Rattle.std.specs.Prelude.{List, [], ◌∷◌, Result, Ok}
 use Rattle.t1_frac.specs.declared.fault.Code.{Code}
 use Rattle.t1_frac.specs.Outcome.{◌>>=◌}
 use Rattle.t1_font.specs.declared.glyph_metrics.GlyphMetrics.{GlyphMetrics}
-use Rattle.t1_font.specs.MeasuredGlyphs.{glyph_metrics_by}
-use Rattle.t1_cache.specs.Renewed.{Kept}
+use Rattle.t1_font.specs.MetricsByRuns.{glyph_metrics_by}
+use Rattle.t1_cache.specs.Recorded.{Kept}
 
 -- word: what is reported of each glyph by its record
 abbrev pub kept_metrics : List Kept → Result (List GlyphMetrics) Code

@@ -1,5 +1,5 @@
 -- The records of a source from scratch.
-use Rattle.std.specs.Prelude.{◌≡◌, ◌≤◌, ℕ, false, length, is_some, List, map, Some, Result, Ok, Err}
+use Rattle.std.specs.Prelude.{◌≡◌, ℕ, false, length, is_some, List, map, Some, Result, Ok, Err}
 use Rattle.std.specs.List.{AllByRecursion, list_any}
 use Rattle.std.specs.Str.{bytes_eq}
 use Rattle.t1_frac.specs.declared.fault.Fault.{Fault}
@@ -7,13 +7,13 @@ use Rattle.t1_parts.specs.SourceParts.{SourceParts}
 use Rattle.t1_run.specs.Run.{FontBodies, Key, own}
 use Rattle.t1_font.specs.declared.glyph_metrics.GlyphMetrics.{GlyphMetrics}
 use Rattle.t1_font.specs.Assembly.{file_check}
-use Rattle.t1_font.specs.Bodies.{SameBodies}
+use Rattle.t1_font.specs.KeptBodies.{SameBodies}
 use Rattle.t1_font.specs.Glyphs.{glyph_names}
-use Rattle.t1_font.specs.Runs.{NamedRun as KeptRun, run_kept, drawing_in, counted}
+use Rattle.t1_font.specs.Runs.{NamedRun as KeptRun, run_kept, drawing_in}
 use Rattle.t1_cache.specs.declared.records.Records.{Records}
 use Rattle.t1_cache.specs.Bodies.{record_bodies}
 use Rattle.t1_cache.specs.Laws.{AreDistinct}
-use Rattle.t1_cache.specs.Renewed.{Kept, kept_of}
+use Rattle.t1_cache.specs.Recorded.{Kept, kept_of}
 use Rattle.t1_cache.specs.Users.{lists}
 use Rattle.t1_rerun.specs.Renewals.{HasBox, HasRun}
 
@@ -40,10 +40,6 @@ pub record AreUnused (m : FontBodies) (runs : List KeptRun) (metrics : List Glyp
   pub users : (k : Key) (u : List ℕ) → lists records k u ≡ false
   pub order : map (λ k. k.name) (map kept_of records.glyphs.entries) ≡ measured_names metrics
   pub each : AllByRecursion (IsRecorded runs metrics) (map kept_of records.glyphs.entries)
-
--- profile: a record's run is after this count
-abbrev pub IsRunAfter : ℕ → Kept → Type 0
-IsRunAfter count k = counted count 1 ≤ k.run.serial
 
 -- word: one run for each of these names; none, where there is a fault
 abbrev pub runs_where : Result (Unit {0}) Fault → List (List ℕ) → ℕ

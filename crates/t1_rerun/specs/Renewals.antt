@@ -9,11 +9,13 @@ use Rattle.t1_extent.specs.Kept.{TracedRun}
 use Rattle.t1_afm.specs.declared.bbox.BBox.{BBox}
 use Rattle.t1_font.specs.declared.glyph_metrics.GlyphMetrics.{GlyphMetrics}
 use Rattle.t1_font.specs.Bodies.{bodies}
-use Rattle.t1_font.specs.Runs.{NamedRun as KeptRun, run_kept, counted}
+use Rattle.t1_font.specs.Runs.{NamedRun as KeptRun, run_kept}
+use Rattle.t1_font.specs.RunCounts.{counted}
 use Rattle.t1_cache.specs.declared.records.Rerun.{Rerun}
 use Rattle.t1_cache.specs.Edited.{stale}
 use Rattle.t1_cache.specs.Joins.{AreLeaves}
-use Rattle.t1_cache.specs.Renewal.{kept_by, IsFromScratch}
+use Rattle.t1_cache.specs.Renewal.{kept_by}
+use Rattle.t1_cache.specs.Recorded.{IsFromScratch}
 use Rattle.t1_run.specs.Touched.{AreStale}
 use Rattle.t1_rerun.specs.declared.renewal.Renewal.{Renewal}
 

@@ -9,9 +9,8 @@ use Rattle.t1_source.specs.WellFormed.{IsWellFormed}
 use Rattle.t1_run.specs.Run.{Key, Subr, Glyph}
 use Rattle.t1_cache.specs.declared.records.Records.{Records}
 use Rattle.t1_cache.specs.Edited.{is_stale}
-use Rattle.t1_cache.specs.Renewal.{IsOneOf}
-use Rattle.t1_cache.specs.Renewed.{Kept}
-use Rattle.t1_rerun.specs.Opened.{IsRunAfter}
+use Rattle.t1_cache.specs.Recorded.{IsOneOf, Kept}
+use Rattle.t1_rerun.specs.RunNumbers.{IsRunAfter}
 use Rattle.t1_rerun.specs.Right.{IsRight}
 
 -- word: the records are right for a source of which an edit made this one

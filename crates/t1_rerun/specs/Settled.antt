@@ -6,7 +6,8 @@ use Rattle.t1_parts.specs.SourceParts.{SourceParts}
 use Rattle.t1_run.specs.Run.{Key, body_at, key_eq}
 use Rattle.t1_run.specs.Touched.{is_key_of}
 use Rattle.t1_code.specs.declared.command.Command.{Command}
-use Rattle.t1_font.specs.Bodies.{bodies, SameBodies}
+use Rattle.t1_font.specs.Bodies.{bodies}
+use Rattle.t1_font.specs.KeptBodies.{SameBodies}
 use Rattle.t1_font.specs.Glyphs.{glyph_names}
 use Rattle.t1_font.specs.SourceChecks.{source_check}
 use Rattle.t1_cache.specs.declared.records.Named.{Named}
@@ -16,10 +17,12 @@ use Rattle.t1_cache.specs.declared.records.Rerun.{Rerun}
 use Rattle.t1_cache.specs.Bodies.{record_bodies}
 use Rattle.t1_cache.specs.Edited.{is_stale, IsEditedAt}
 use Rattle.t1_cache.specs.Laws.{AreDistinct}
-use Rattle.t1_cache.specs.Renewal.{IsOneOf, kept_by}
-use Rattle.t1_cache.specs.Renewed.{Kept, kept_of, reruns_by_name}
+use Rattle.t1_cache.specs.Renewal.{kept_by}
+use Rattle.t1_cache.specs.Recorded.{IsOneOf, Kept, kept_of}
+use Rattle.t1_cache.specs.Renewed.{reruns_by_name}
 use Rattle.t1_cache.specs.Room.{MayJoin}
-use Rattle.t1_cache.specs.Users.{key_of, lists, users_at, wanted}
+use Rattle.t1_cache.specs.Users.{lists, users_at, pairs_of_key}
+use Rattle.t1_cache.specs.EditKeys.{key_of}
 use Rattle.t1_rerun.specs.declared.renewal.Renewal.{Renewal}
 use Rattle.t1_rerun.specs.declared.entry_change.EntryChange.{EntryChange}
 use Rattle.t1_rerun.specs.declared.settling.Ready.{Ready}
@@ -88,14 +91,14 @@ pub record AreAsBefore (old new : Records) : Type 0 where
 -- word: all that the changes take is there: a step for each change, the new runs that no step has, the names of
 -- glyphs whose records are taken out, and the room in the records
 pub record IsReady (changes : List EntryChange) (renewal : Renewal) (records : Records) (ready : Ready) : Type 0 where
-  pub steps : AreStepsOf (new_run renewal.reruns.items) (wanted renewal.joins.items) records changes ready.steps.items
+  pub steps : AreStepsOf (new_run renewal.reruns.items) (pairs_of_key renewal.joins.items) records changes ready.steps.items
   pub runs : (g : List ℕ) → new_run (reruns_by_name ready.runs.entries) g ≡ (if some_inserts ready.steps.items g then None else new_run renewal.reruns.items g)
   pub taken : AreTakenOut ready.taken.keys ready.steps.items
   pub leaves : ready.leaves.items ≡ renewal.leaves.items
   pub joins : ready.joins.items ≡ renewal.joins.items
   pub subrs : length ready.steps.items ≤ spare records.subrs
   pub glyphs : length ready.steps.items ≤ spare records.glyphs
-  pub users : (k : Key) → MayJoin (wanted renewal.joins.items k) (users_at records k)
+  pub users : (k : Key) → MayJoin (pairs_of_key renewal.joins.items k) (users_at records k)
 
 -- word: there are a judged edit and its changes
 pub record MayBeSettled (records : Records) (ready : Ready) : Type 0 where

@@ -17,8 +17,10 @@ use Rattle.t1_cache.specs.declared.records.NewRun.{NewRun}
 use Rattle.t1_cache.specs.declared.records.Records.{Records}
 use Rattle.t1_cache.specs.declared.records.Rerun.{Rerun}
 use Rattle.t1_cache.specs.Bodies.{record_bodies}
-use Rattle.t1_cache.specs.Renewed.{Kept, kept, kept_of, rerun_of}
-use Rattle.t1_cache.specs.Users.{has_name, key_of, users_at, users_of, UserSet}
+use Rattle.t1_cache.specs.Renewed.{kept, rerun_of}
+use Rattle.t1_cache.specs.Recorded.{Kept, kept_of}
+use Rattle.t1_cache.specs.Users.{has_name, users_at, users_of, UserSet}
+use Rattle.t1_cache.specs.EditKeys.{key_of}
 use Rattle.t1_rerun.specs.declared.entry_change.EntryChange.{EntryChange}
 use Rattle.t1_rerun.specs.declared.settling.steps.Step.{Step}
 use Rattle.t1_rerun.specs.declared.settling.steps.Step.TheVariants as steps
@@ -64,8 +66,8 @@ step_kept (steps.InsertSubr n r) ks = ks
 step_kept (steps.InsertGlyph name r) ks = filter (λ k. not (bytes_eq name.items k.name)) ks ++ kept name.items r.run r.bbox ∷ []
 
 -- word: what is seen after a step
-abbrev pub after : Step → Seen → Seen
-after step x = record {
+abbrev pub seen_after : Step → Seen → Seen
+seen_after step x = record {
   bodies = λ k. if key_eq k (step_key step) then step_body step (x.bodies k) else x.bodies k;
   users = λ k. if key_eq k (step_key step) then step_users step (x.users k) else x.users k;
   kept = step_kept step x.kept;
@@ -74,7 +76,7 @@ after step x = record {
 -- word: what is seen after all of these steps, the last one first
 abbrev pub after_all : List Step → Seen → Seen
 after_all [] x = x
-after_all (step ∷ steps) x = after step (after_all steps x)
+after_all (step ∷ steps) x = seen_after step (after_all steps x)
 
 -- ---- what leaves its place
 

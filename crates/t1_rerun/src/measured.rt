@@ -4,7 +4,7 @@ ghost use Rattle.t1_frac.specs.Outcome.{Gives, reported_at};
 ghost use Rattle.t1_frac.specs.declared.fault.Place.TheVariants.{Nowhere};
 ghost use Rattle.t1_parts.specs.SourceParts.{SourceParts};
 ghost use Rattle.t1_font.specs.SourceChecks.{measured_source};
-ghost use Rattle.t1_cache.specs.Renewed.{kept_of};
+ghost use Rattle.t1_cache.specs.Recorded.{kept_of};
 ghost use Rattle.t1_rerun.specs.Measured.{kept_metrics};
 ghost use Rattle.t1_rerun.specs.Right.{IsRight};
 

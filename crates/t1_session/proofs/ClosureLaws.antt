@@ -10,7 +10,7 @@ use Rattle.t1_font.specs.Bodies.{bodies}
 use Rattle.t1_font.specs.SourceChecks.{source_check, source_glyphs}
 use Rattle.t1_font.proofs.GlyphsOfSource.{check-by-glyphs}
 use Rattle.t1_cache.specs.Edited.{is_stale, stale}
-use Rattle.t1_cache.specs.Renewed.{Kept}
+use Rattle.t1_cache.specs.Recorded.{Kept}
 use Rattle.t1_cache.proofs.Drawing.{all_draw}
 use Rattle.t1_cache.proofs.Lists.{all-weaken}
 use Rattle.t1_rerun.specs.Renewing.{IsRunWhereStale}

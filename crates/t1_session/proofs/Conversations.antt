@@ -9,18 +9,18 @@ use Rattle.t1_session.specs.declared.error.ServeError.TheVariants as errors
 use Rattle.t1_commands.specs.declared.command.Command.{Command}
 use Rattle.t1_text.specs.Lines.{unified}
 use Rattle.t1_commands.specs.Lines.{finished_lines}
-use Rattle.t1_commands.specs.Commands.{Opening, commands_of, takes_body, alone, ends_body, body_command, open_command}
+use Rattle.t1_commands.specs.Commands.{OpenCommand, commands_of, takes_body, alone, ends_body, body_command, open_command}
 use Rattle.t1_commands.specs.AnswerTexts.{answer_text}
 use Rattle.t1_commands.specs.Answers.{answers, answer_to}
 use Rattle.t1_session.specs.Machine.{machine}
 use Rattle.t1_session.specs.State.{SessionState}
-use Rattle.t1_session.specs.Conversation.{Conversation, commands_from, input_after, is_unbroken, Performs, Goes, Grows, IsQuiet, AnswersCommand, LineGoes, EndsCommandLine, IsBodyLine, EndsLine, Answered, StopsForMemory, Feeds, AnswersTheEnd}
+use Rattle.t1_session.specs.Conversation.{Conversation, commands_from, input_after, is_unbroken, Performs, Goes, Grows, IsQuiet, AnswersCommand, LineGoes, EndsCommandLine, IsBodyLine, EndsLine, Answered, StopsForRoom, Feeds, AnswersTheEnd}
 use Rattle.t1_session.specs.LineEnds.{ends_line, ends_in_return}
 use Rattle.t1_session.proofs.Flushing.{flushes-none, flushes-append, flushes-fails}
 use Rattle.t1_session.proofs.LineLaws.{finished_lines-line, finished_lines-unbroken, finished_lines-last, last_line, unified-byte, unified-end, is_unbroken-push}
 
 -- a body that is open is no command before the input ends
-none_more : (o : Option Opening) → commands_of false o [] ≡ []
+none_more : (o : Option OpenCommand) → commands_of false o [] ≡ []
 none_more None = refl
 none_more (Some o) = refl
 
@@ -154,11 +154,11 @@ last_opens : (line : List ℕ) → takes_body (words line) ≡ true → commands
 last_opens [] h = let t : true ≡ false = sym h ∙ no_words in cc
 last_opens (b ∷ bs) h = rw h refl
 
-last_ends : (o : Opening) (line : List ℕ) → ends_body line ≡ true → commands_of true (Some o) (last_line line) ≡ body_command (words o.heading) o.body ∷ []
+last_ends : (o : OpenCommand) (line : List ℕ) → ends_body line ≡ true → commands_of true (Some o) (last_line line) ≡ body_command (words o.heading) o.body ∷ []
 last_ends o [] h = let t : true ≡ false = sym h ∙ no_dot in cc
 last_ends o (b ∷ bs) h = rw h refl
 
-last_leaves : (o : Opening) (line : List ℕ) → ends_body line ≡ false → commands_of true (Some o) (last_line line) ≡ open_command (words o.heading) ∷ []
+last_leaves : (o : OpenCommand) (line : List ℕ) → ends_body line ≡ false → commands_of true (Some o) (last_line line) ≡ open_command (words o.heading) ∷ []
 last_leaves o [] h = refl
 last_leaves o (b ∷ bs) h = rw h refl
 
@@ -168,10 +168,10 @@ alone_at_end c h k p = at_end c h ∙ rw k (last_alone c.line p)
 pub opened_at_end : (c : Conversation) → is_unbroken c.line ≡ true → c.opening ≡ None → takes_body (words c.line) ≡ true → commands_from c [] true ≡ open_command (words c.line) ∷ []
 opened_at_end c h k p = at_end c h ∙ rw k (last_opens c.line p)
 
-pub body_at_end : (c : Conversation) (o : Opening) → is_unbroken c.line ≡ true → c.opening ≡ Some o → ends_body c.line ≡ true → commands_from c [] true ≡ body_command (words o.heading) o.body ∷ []
+pub body_at_end : (c : Conversation) (o : OpenCommand) → is_unbroken c.line ≡ true → c.opening ≡ Some o → ends_body c.line ≡ true → commands_from c [] true ≡ body_command (words o.heading) o.body ∷ []
 body_at_end c o h k p = at_end c h ∙ rw k (last_ends o c.line p)
 
-pub left_at_end : (c : Conversation) (o : Opening) → is_unbroken c.line ≡ true → c.opening ≡ Some o → ends_body c.line ≡ false → commands_from c [] true ≡ open_command (words o.heading) ∷ []
+pub left_at_end : (c : Conversation) (o : OpenCommand) → is_unbroken c.line ≡ true → c.opening ≡ Some o → ends_body c.line ≡ false → commands_from c [] true ≡ open_command (words o.heading) ∷ []
 left_at_end c o h k p = at_end c h ∙ rw k (last_leaves o c.line p)
 
 module _ {W : Type 0} (contents : W → Option (List ℕ)) where
@@ -181,7 +181,7 @@ module _ {W : Type 0} (contents : W → Option (List ℕ)) where
 
   -- memory was wanted for the first byte
   pub stopped_at_once : (c : Conversation) (sink : Tally W) (b : ℕ) → is_unbroken c.line ≡ true → commands_from c (b ∷ []) false ≡ [] → Grows c b
-      → StopsForMemory contents c sink sink (b ∷ [])
+      → StopsForRoom contents c sink sink (b ∷ [])
   stopped_at_once c sink b h alone grows = record {
     front = [];
     byte = b;

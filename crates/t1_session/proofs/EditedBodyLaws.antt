@@ -12,12 +12,13 @@ use Rattle.t1_source.specs.declared.edit.Edit.{Edit}
 use Rattle.t1_run.specs.Footprint.{Includes}
 use Rattle.t1_run.specs.Overlay.{after_change}
 use Rattle.t1_run.specs.Run.{FontBodies, Key, Subr, Glyph, body_at, key_eq}
-use Rattle.t1_font.specs.Bodies.{bodies, SameBodies}
+use Rattle.t1_font.specs.Bodies.{bodies}
+use Rattle.t1_font.specs.KeptBodies.{SameBodies}
 use Rattle.t1_font.proofs.Keys.{key-itself, key-same}
 use Rattle.t1_cache.specs.declared.records.Records.{Records}
 use Rattle.t1_cache.specs.Bodies.{record_bodies}
 use Rattle.t1_cache.specs.Edited.{IsEditedAt}
-use Rattle.t1_cache.specs.Users.{key_of}
+use Rattle.t1_cache.specs.EditKeys.{key_of}
 use Rattle.t1_rerun.specs.declared.entry_change.EntryChange.{EntryChange}
 use Rattle.t1_rerun.specs.Changing.{body_changed}
 use Rattle.t1_rerun.specs.EntryChanges.{edit_change, IsChanged, IsMadeByEdit, KeyChange}
@@ -25,7 +26,8 @@ use Rattle.t1_rerun.specs.Right.{IsRight}
 use Rattle.t1_rerun.specs.Settled.{changed_keys, HasBody}
 use Rattle.t1_rerun.proofs.EditChecks.{edits_checked}
 use Rattle.t1_font.specs.SourceChecks.{source_check}
-use Rattle.t1_refusal.specs.Telling.{fault_of, HasFaultyBody}
+use Rattle.t1_refusal.specs.Telling.{fault_of}
+use Rattle.t1_refusal.specs.Bodies.{HasFaultyBody}
 
 -- where the words of an edit have a fault, a body has one
 pub faulty_body : (edit : Edit) (old new : SourceParts) → IsMadeByEdit edit old new → (refusal : Refusal) (fault : Fault) → refusal ≡ refusals.Fault fault

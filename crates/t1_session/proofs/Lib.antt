@@ -8,6 +8,7 @@ pub mod LineLaws
 pub mod MetricsLineLaws
 pub mod QueryLaws
 pub mod ReadableLaws
+pub mod RecordLaws
 pub mod Reporting
 pub mod RefusalLaws
 pub mod RerunLaws

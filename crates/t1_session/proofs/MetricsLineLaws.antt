@@ -33,7 +33,8 @@ use Rattle.t1_font.specs.Metrics.{all_codes, char_of, coded, in_code_order}
 use Rattle.t1_font.specs.SourceChecks.{measured_source}
 use Rattle.t1_cache.specs.declared.records.GlyphRecord.{GlyphRecord}
 use Rattle.t1_cache.specs.Kept.{KeepsAll}
-use Rattle.t1_cache.specs.Renewed.{kept_of, record_of}
+use Rattle.t1_cache.specs.Renewed.{record_of}
+use Rattle.t1_cache.specs.Recorded.{kept_of}
 use Rattle.t1_cache.proofs.Names.{bytes_equiv}
 use Rattle.t1_rerun.specs.Measured.{kept_metrics}
 use Rattle.t1_rerun.proofs.Reporting.{font_of, metrics-right}

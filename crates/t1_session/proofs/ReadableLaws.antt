@@ -27,7 +27,7 @@ use Rattle.t1_commands.specs.Answers.{answer_to}
 use Rattle.t1_commands.specs.Blocks.{block_size}
 use Rattle.t1_commands.specs.Answers.{Performed}
 use Rattle.t1_session.specs.declared.refused.Refused.{Refused}
-use Rattle.t1_session.specs.Machine.{abort_in, after_want, alone, begin_in, blocks_answer, commit_in, drafted, edit_in, file_answer, judged, machine, may_want_memory, noted, opened, opening_state, outcome, perform, query_answer, scratch, taken}
+use Rattle.t1_session.specs.Machine.{abort_in, after_want, without_batch, begin_in, blocks_answer, commit_in, drafted, edit_in, file_answer, judged, machine, may_want_memory, noting_refusals, opened, opening_state, outcome, perform, query_answer, scratch, taken}
 use Rattle.t1_session.specs.Readable.{AreMade, IsDraftMade, IsFaultless, IsReadable, KeepsFaultless, KeepsReadable, OpensFaultless, OpensReadable, PrintsWithoutFault, ReadsBack, ShowsWithoutFault, TellsNoFault}
 use Rattle.t1_session.specs.State.{SessionState}
 use Rattle.t1_session.specs.Queries.{encoding_text, glyph_text, subr_text}
@@ -40,17 +40,17 @@ use Rattle.t1_session.proofs.StateLaws.{asked_scratch, blocks_there, outline_scr
 
 -- ---- after an answer, marked or not
 
-module _ (P : SessionState → Type 0) (without-batch : (s : SessionState) → P s → P (alone s)) (with-refusal : (s : SessionState) (kept : Option Refused) → P s → P (record s { refused = kept })) where
+module _ (P : SessionState → Type 0) (closed : (s : SessionState) → P s → P (without_batch s)) (with-refusal : (s : SessionState) (kept : Option Refused) → P s → P (record s { refused = kept })) where
   after-want : (s : SessionState) (command : Command) → P s → P (after_want s command)
   after-want s (commands.Edit edit) h = h
   after-want s (commands.Print print) h = h
   after-want s (commands.Show show) h = h
   after-want s commands.Begin h = h
-  after-want s commands.Commit h = without-batch s h
+  after-want s commands.Commit h = closed s h
   after-want s commands.Abort h = h
   after-want s (commands.Broken rule) h = h
 
-  after-note : (s : SessionState) (command : Command) (p : Performed SessionState) → P p.next → P (noted s command p).next
+  after-note : (s : SessionState) (command : Command) (p : Performed SessionState) → P p.next → P (noting_refusals s command p).next
   after-note s (commands.Edit edit) p h = with-refusal p.next _ h
   after-note s (commands.Print print) p h = h
   after-note s (commands.Show show) p h = h
@@ -121,7 +121,7 @@ keeps_faultless = after-answer IsFaultless (λ s h. h) (λ s kept h. h) performe
 
 -- ---- readable
 
-alone-readable : (s : SessionState) → IsReadable s → IsReadable (alone s)
+alone-readable : (s : SessionState) → IsReadable s → IsReadable (without_batch s)
 alone-readable s h = record { faultless = h.faultless; made = h.made; draft = tt }
 
 pairs_made : (bytes : List ℕ) (k : List Pair) → pairs bytes ≡ Ok k → are_pairs k ≡ true

@@ -13,10 +13,11 @@ use Rattle.t1_commands.specs.declared.command.Command.TheVariants as commands
 use Rattle.t1_commands.specs.Answers.{Performed}
 use Rattle.t1_session.specs.declared.refused.Refused.{Refused}
 use Rattle.t1_session.specs.declared.refused.Refused.TheVariants as kinds
-use Rattle.t1_session.specs.Machine.{alone, keeping, kept_by, outcome, perform, refused_batch}
-use Rattle.t1_session.specs.Outcomes.{Takes, TakesUnnoted, Took, TookNoted, faulty_batch, refused_source, with_refused}
-use Rattle.t1_session.specs.Refusing.{refused_after, OnFault}
-use Rattle.t1_font.specs.Runs.{counted}
+use Rattle.t1_session.specs.Machine.{without_batch, keeping, refusal_kept, outcome, perform, refused_batch}
+use Rattle.t1_session.specs.Outcomes.{Takes, TookNoted, refused_source}
+use Rattle.t1_session.specs.Unnoted.{TakesUnnoted, Took, faulty_batch, with_refused}
+use Rattle.t1_session.specs.KeptRefusals.{refused_after, OnFault}
+use Rattle.t1_font.specs.RunCounts.{counted}
 use Rattle.t1_cache.specs.Edited.{stale}
 use Rattle.t1_rerun.specs.Renewing.{IsRunWhereStale}
 use Rattle.t1_session.specs.Reruns.{Edition, Reruns}
@@ -27,8 +28,8 @@ use Rattle.t1_session.specs.State.{SessionView, SessionState}
 abbrev told : SessionState → Option Refused → SessionState
 told s kept = record s { refused = kept }
 
-answered : (faulty : Option Refused) (p : Performed SessionState) (a : Answer) → p.answer ≡ a → told p.next (kept_by faulty p.next.refused a) ≡ (keeping faulty p).next
-answered faulty p a is = ap (λ (x : Answer). told p.next (kept_by faulty p.next.refused x)) (sym is)
+answered : (faulty : Option Refused) (p : Performed SessionState) (a : Answer) → p.answer ≡ a → told p.next (refusal_kept faulty p.next.refused a) ≡ (keeping faulty p).next
+answered faulty p a is = ap (λ (x : Answer). told p.next (refusal_kept faulty p.next.refused x)) (sym is)
 
 pub took_noted : {T : Type 0} (old mid new : SessionState) (p : Performed SessionState) (may : Bool) (want : SessionState) (faulty : Option Refused) (r : Result T Cause)
     → Took old p may want r mid → new ≡ record mid { refused = refused_after faulty mid.refused r } → TookNoted old (keeping faulty p) may want r new
@@ -68,7 +69,7 @@ module _ {T : Type 0} (old mid new : SessionState) where
       → new ≡ record mid { refused = refused_after given mid.refused r } → Takes old commands.Commit r new
   unfolding perform
   commit_takes given r h faulty is =
-      took_noted old mid new (outcome old commands.Commit) (is_some old.batch) (alone old) (refused_batch old.batch) r h (is ∙ given-fault given (refused_batch old.batch) r faulty)
+      took_noted old mid new (outcome old commands.Commit) (is_some old.batch) (without_batch old) (refused_batch old.batch) r h (is ∙ given-fault given (refused_batch old.batch) r faulty)
 
 -- a batch whose source has a fault
 pub batch_faulty : (refusal : Refusal) (made : SourceParts) (cause : Cause) (kept : Option Refused) → cause ≡ refused_source refusal → kept ≡ faulty_batch refusal made

@@ -16,7 +16,7 @@ use Rattle.t1_commands.specs.declared.show.Show.{Show}
 use Rattle.t1_commands.specs.AnswerTexts.{answer_text}
 use Rattle.t1_commands.specs.Answering.{ReportsPerformed, SendsText}
 use Rattle.t1_session.specs.Conversation.{IsPerformed}
-use Rattle.t1_session.specs.Machine.{after_want, may_want_memory, outcome, perform, printed, shown, stays}
+use Rattle.t1_session.specs.Machine.{after_want, may_want_memory, outcome, perform, printed, shown_answer, stays}
 use Rattle.t1_session.specs.State.{SessionState}
 
 module _ {W : Type 0} (contents : W → Option (List ℕ)) (old new : SessionState) (before after : Tally W) where
@@ -49,10 +49,10 @@ print_performed contents s before after print r h =
     shown_performed contents s before after (commands.Print print) (printed s print) r refl refl refl h
 
 pub query_performed : {W E : Type 0} (contents : W → Option (List ℕ)) (s : SessionState) (before after : Tally W) (show : Show) (r : Result E OutError)
-    → Prints contents before after (Ok (answer_text (shown s show))) r → IsPerformed contents s s before after (commands.Show show) r
+    → Prints contents before after (Ok (answer_text (shown_answer s show))) r → IsPerformed contents s s before after (commands.Show show) r
 unfolding perform outcome
 query_performed contents s before after show r h =
-    shown_performed contents s before after (commands.Show show) (shown s show) r refl refl refl h
+    shown_performed contents s before after (commands.Show show) (shown_answer s show) r refl refl refl h
 
 pub broken_performed : {W E : Type 0} (contents : W → Option (List ℕ)) (s : SessionState) (before after : Tally W) (rule : Rule) (r : Result E OutError)
     → ReportsPerformed {T = Unit {0}} contents before after (Err (causes.Rule rule)) r → IsPerformed contents s s before after (commands.Broken rule) r

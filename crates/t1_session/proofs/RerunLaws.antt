@@ -15,10 +15,12 @@ use Rattle.t1_source.specs.declared.editing.change.Change.{Change}
 use Rattle.t1_source.specs.Changes.{changed, Serves}
 use Rattle.t1_run.specs.Run.{Key}
 use Rattle.t1_font.specs.Assembly.{file_check}
-use Rattle.t1_font.specs.Runs.{counted, Counts}
+use Rattle.t1_font.specs.Runs.{Counts}
+use Rattle.t1_font.specs.RunCounts.{counted}
 use Rattle.t1_font.specs.SourceChecks.{source_check}
-use Rattle.t1_cache.specs.Edited.{named, stale}
-use Rattle.t1_cache.specs.Renewed.{Kept}
+use Rattle.t1_cache.specs.Edited.{stale}
+use Rattle.t1_cache.specs.EditKeys.{named}
+use Rattle.t1_cache.specs.Recorded.{Kept}
 use Rattle.t1_rerun.specs.Opened.{runs_where}
 use Rattle.t1_held.specs.declared.held.Held.{Held}
 use Rattle.t1_held.specs.Held.{IsHeld}

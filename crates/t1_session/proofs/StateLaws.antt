@@ -37,16 +37,19 @@ use Rattle.t1_commands.specs.declared.answer.Answer.TheVariants.{Data}
 use Rattle.t1_commands.specs.declared.print.Print.TheVariants as prints
 use Rattle.std.specs.declared.alloc.Global.{Global}
 use Rattle.std.specs.declared.vec.Vec.{Vec}
-use Rattle.t1_commands.specs.AnswerTexts.{answer_text, data_of}
+use Rattle.t1_commands.specs.AnswerTexts.{answer_text}
+use Rattle.t1_commands.specs.AnswerParts.{data_of}
 use Rattle.t1_session.specs.Files.{assembled, assembled_pfa}
 use Rattle.t1_session.specs.FromScratch.{asked, blocks_from_scratch, pfa_from_scratch, texts_of, from_scratch, pfb_from_scratch, metrics_from_scratch, metrics_line_from_scratch, outline_from_scratch, uses_from_scratch}
-use Rattle.t1_session.specs.Machine.{alone, file_answer, judged, printed}
-use Rattle.t1_session.specs.Outcomes.{AnswersNoFault, Finds, Took, refused_source}
+use Rattle.t1_session.specs.Machine.{without_batch, file_answer, judged, printed}
+use Rattle.t1_session.specs.Outcomes.{AnswersNoFault, Finds, refused_source}
+use Rattle.t1_session.specs.Unnoted.{Took}
 use Rattle.t1_session.specs.Queries.{metrics_line}
 use Rattle.t1_held.specs.Batch.{Draft}
 use Rattle.t1_cache.specs.declared.records.GlyphRecord.{GlyphRecord}
 use Rattle.t1_cache.specs.Kept.{KeepsAll}
-use Rattle.t1_cache.specs.Renewed.{kept_of, record_of}
+use Rattle.t1_cache.specs.Renewed.{record_of}
+use Rattle.t1_cache.specs.Recorded.{kept_of}
 use Rattle.t1_session.specs.RecordedLines.{recorded_line}
 use Rattle.t1_session.specs.State.{SessionState}
 use Rattle.t1_session.proofs.MetricsLineLaws.{line_recorded}
@@ -62,7 +65,7 @@ check_refused s fault e = ap (λ (r : Result MeasuredFont Fault). r >>= λ metri
 -- ---- a source judged
 
 -- without a batch a state is alone
-pub stays_alone : (s : SessionState) → s.batch ≡ None → s ≡ alone s
+pub stays_alone : (s : SessionState) → s.batch ≡ None → s ≡ without_batch s
 stays_alone s none = ap (λ (b : Option Draft). record s { batch = b }) none
 
 -- ---- its file

@@ -11,7 +11,7 @@ use Rattle.t1_session.specs.declared.error.ServeError.{ServeError}
 use Rattle.t1_session.specs.declared.error.ServeError.TheVariants as errors
 use Rattle.t1_commands.specs.declared.command.Command.{Command}
 use Rattle.t1_commands.specs.Lines.{finished_lines}
-use Rattle.t1_commands.specs.Commands.{Opening, commands_of, ends_body}
+use Rattle.t1_commands.specs.Commands.{OpenCommand, commands_of, ends_body}
 use Rattle.t1_commands.specs.AnswerTexts.{answer_text}
 use Rattle.t1_commands.specs.Answers.{answers, answer_to}
 use Rattle.t1_session.specs.Flushing.{WritesAndFlushes}
@@ -23,7 +23,7 @@ use Rattle.t1_session.specs.State.{SessionState}
 -- and whether the byte before was a CR
 pub record Conversation : Type 0 where
   pub state : SessionState
-  pub opening : Option Opening
+  pub opening : Option OpenCommand
   pub line : List ℕ
   pub after_return : Bool
 
@@ -115,8 +115,8 @@ EndsCommandLine contents old new before after (Err errors.Read) = ⊥
 EndsCommandLine contents old new before after (Err (errors.Load fault)) = ⊥
 
 -- word: the line goes into a body
-pub record IsBodyLine (opening : Option Opening) (line : List ℕ) : Type 0 where
-  pub opened : Opening
+pub record IsBodyLine (opening : Option OpenCommand) (line : List ℕ) : Type 0 where
+  pub opened : OpenCommand
   pub is : opening ≡ Some opened
   pub goes_on : ends_body line ≡ false
 
@@ -141,7 +141,7 @@ Grows c b = (is_line_end b ≡ false) ⊎ ((ends_line c.after_return b ≡ true)
 
 -- word: memory was wanted for a byte of the piece that makes longer what is kept, and finishes no command; those before
 -- it were answered
-pub record StopsForMemory {W : Type 0} (contents : W → Option (List ℕ)) (old : Conversation) (before after : Tally W) (piece : List ℕ) : Type 0 where
+pub record StopsForRoom {W : Type 0} (contents : W → Option (List ℕ)) (old : Conversation) (before after : Tally W) (piece : List ℕ) : Type 0 where
   pub front : List ℕ
   pub byte : ℕ
   pub rest : List ℕ
@@ -165,7 +165,7 @@ pub record StopsForWrite {W : Type 0} (contents : W → Option (List ℕ)) (old 
 -- word: what a call leaves that takes a piece of input
 abbrev pub Feeds : {W T : Type 0} → (W → Option (List ℕ)) → Conversation → Conversation → Tally W → Tally W → List ℕ → Result T ServeError → Type 0
 Feeds contents old new before after piece (Ok done) = Answered contents old new before after piece
-Feeds contents old new before after piece (Err errors.Memory) = StopsForMemory contents old before after piece
+Feeds contents old new before after piece (Err errors.Memory) = StopsForRoom contents old before after piece
 Feeds contents old new before after piece (Err errors.Write) = StopsForWrite contents old before after piece
 Feeds contents old new before after piece (Err errors.Read) = ⊥
 Feeds contents old new before after piece (Err (errors.Load fault)) = ⊥

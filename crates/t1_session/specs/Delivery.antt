@@ -1,24 +1,9 @@
 -- What a call over whole files answers, and what it wrote by then.
 use Rattle.std.specs.Prelude.{◌≡◌, ℕ, List, Option, Result, Ok, Err}
 use Rattle.t1_frac.specs.declared.fault.Fault.{Fault}
-use Rattle.t1_frac.specs.declared.fault.Refusal.{Refusal}
-use Rattle.t1_frac.specs.declared.fault.Refusal.TheVariants as refusals
-use Rattle.t1_code.specs.declared.parts.OutError.{OutError}
-use Rattle.t1_code.specs.declared.parts.OutError.TheVariants as out
 use Rattle.t1_code.specs.Counted.{Tally, WritesAll, WritesFront}
 use Rattle.t1_session.specs.declared.error.ServeError.{ServeError}
 use Rattle.t1_session.specs.declared.error.ServeError.TheVariants as errors
-
--- word: a fault of what is loaded is reported in Load
-abbrev pub reported_by_refusal : Refusal → ServeError
-reported_by_refusal (refusals.Fault fault) = errors.Load fault
-reported_by_refusal refusals.Memory = errors.Memory
-
--- word: a fault of what is written is reported in Load too
-abbrev pub reported_by_writing : OutError → ServeError
-reported_by_writing (out.Fault fault) = errors.Load fault
-reported_by_writing out.Write = errors.Write
-reported_by_writing out.Memory = errors.Memory
 
 -- profile: a call that writes what a definition gives: the whole text at Ok; a beginning of it and one failed call at
 -- Write; nothing at Load, whose fault is the definition's, and nothing where memory ran out. It reads nothing.

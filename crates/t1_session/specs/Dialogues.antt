@@ -2,13 +2,13 @@
 use Rattle.t1_session.specs.declared.dialogue.Dialogue.{Dialogue}
 use Rattle.t1_session.specs.declared.dialogue.Opened.{Opened}
 use Rattle.std.specs.Prelude.{option_map}
-use Rattle.t1_commands.specs.Commands.{Opening}
+use Rattle.t1_commands.specs.Commands.{OpenCommand}
 use Rattle.t1_session.specs.Conversation.{Conversation}
 
 -- word: the command whose body is being read
-abbrev pub opening_of : Opened → Opening
-opening_of o = record { heading = o.heading.items; body = o.body.items }
+abbrev pub opening_seen : Opened → OpenCommand
+opening_seen o = record { heading = o.heading.items; body = o.body.items }
 
 -- word: a dialogue without where it lies in memory
 abbrev pub conversation_of : Dialogue → Conversation
-conversation_of d = record { state = d.session; opening = option_map opening_of d.opening; line = d.line.items; after_return = d.after_return }
+conversation_of d = record { state = d.session; opening = option_map opening_seen d.opening; line = d.line.items; after_return = d.after_return }

@@ -7,10 +7,9 @@ use Rattle.t1_parts.specs.SourceParts.{SourceParts}
 use Rattle.t1_pairs.specs.Kerning.{pairs}
 use Rattle.t1_parts.specs.Reading.{reads}
 use Rattle.t1_afm.specs.Afm.{afm}
-use Rattle.t1_font.specs.Assembly.{source_file, source_pfa, file_check}
+use Rattle.t1_font.specs.Assembly.{source_file, source_pfa}
 use Rattle.t1_font.specs.FontMetrics.{metrics_of}
-use Rattle.t1_font.specs.MeasuredGlyphs.{measured}
-use Rattle.t1_font.specs.SourceChecks.{source_check}
+use Rattle.t1_font.specs.SourceChecks.{measured_source, source_check}
 
 -- profile, order of faults: the PFB file of the bytes of a source in blocks of this size, or the first fault of reading,
 -- of the bodies, or F23
@@ -27,12 +26,15 @@ unfoldable pub metrics_file : List ℕ → List ℕ → Result (List ℕ) Fault
 metrics_file source kerning = do
   s ← reads source
   ps ← pairs kerning
-  checked ← file_check s
-  glyphs ← measured s.items
+  glyphs ← measured_source s
   Ok (afm (metrics_of s ps glyphs))
+
+-- profile: a source and its pairs pass where they have an AFM file, and are refused by the fault that measuring them reports
+abbrev pub verdict : List ℕ → List ℕ → Result (Unit {0}) Fault
+verdict source kerning = metrics_file source kerning >>= λ file. Ok tt
 
 -- profile: the AFM file of a source and its pairs, which were read, is refused by the source's first fault and by
 -- nothing else
 abbrev pub MetricsTellFirstFault : Type 0
 MetricsTellFirstFault = (source kerning : List ℕ) (s : SourceParts) (ps : List Pair) → reads source ≡ Ok s → pairs kerning ≡ Ok ps
-    → (metrics_file source kerning >>= λ file. Ok tt) ≡ source_check s
+    → verdict source kerning ≡ source_check s

@@ -30,8 +30,8 @@ use Rattle.t1_session.specs.declared.refused.Refused.{Refused}
 use Rattle.t1_session.specs.declared.refused.Refused.TheVariants as kinds
 
 -- profile: the state without its batch
-abbrev pub alone : SessionState → SessionState
-alone s = record s { batch = None }
+abbrev pub without_batch : SessionState → SessionState
+without_batch s = record s { batch = None }
 
 -- profile: the state with this source and these pairs, and no batch
 abbrev pub holding : SessionState → SourceParts × List Pair → SessionState
@@ -47,7 +47,7 @@ stays s answer = record { answer = answer; next = s }
 -- and a batch is closed either way
 abbrev pub judged : SessionState → SourceParts × List Pair → Result (Unit {0}) Fault → Performed SessionState
 judged s made (Ok checked) = record { answer = Accepted; next = holding s made }
-judged s made (Err fault) = record { answer = Faulty fault; next = alone s }
+judged s made (Err fault) = record { answer = Faulty fault; next = without_batch s }
 
 -- profile, edits: an edit outside a batch is judged by the edit rules, then by the first fault of the edited source
 abbrev pub taken : SessionState → Result (SourceParts × List Pair) Rule → Performed SessionState
@@ -84,7 +84,7 @@ commit_in (Some d) s = judged s (d.source, d.pairs) (source_check d.source)
 -- profile, batches: the edits of a batch are dropped; E12 where none is open
 abbrev pub abort_in : Option Draft → SessionState → Performed SessionState
 abort_in None s = stays s (Broken E12)
-abort_in (Some d) s = record { answer = Accepted; next = alone s }
+abort_in (Some d) s = record { answer = Accepted; next = without_batch s }
 
 -- ---- prints
 
@@ -123,13 +123,13 @@ query_answer (Err fault) = Faulty fault
 
 -- profile, session commands: what a query shows, by what reading and measuring the printed source gives from scratch; in a
 -- batch, of the session as before it
-abbrev pub shown : SessionState → Show → Answer
-shown s (shows.Glyph name) = query_answer (glyph_from_scratch name s)
-shown s (shows.Subr number) = query_answer (subr_from_scratch number s)
-shown s (shows.Metrics name) = query_answer (metrics_line_from_scratch name s)
-shown s (shows.Outline name) = query_answer (outline_from_scratch name s)
-shown s shows.Encoding = file_answer (encoding_from_scratch s)
-shown s shows.Refusal = Data (refused_text s.source s.pairs s.refused)
+abbrev pub shown_answer : SessionState → Show → Answer
+shown_answer s (shows.Glyph name) = query_answer (glyph_from_scratch name s)
+shown_answer s (shows.Subr number) = query_answer (subr_from_scratch number s)
+shown_answer s (shows.Metrics name) = query_answer (metrics_line_from_scratch name s)
+shown_answer s (shows.Outline name) = query_answer (outline_from_scratch name s)
+shown_answer s shows.Encoding = file_answer (encoding_from_scratch s)
+shown_answer s shows.Refusal = Data (refused_text s.source s.pairs s.refused)
 
 -- ---- all commands
 
@@ -137,7 +137,7 @@ shown s shows.Refusal = Data (refused_text s.source s.pairs s.refused)
 unfoldable pub outcome : SessionState → Command → Performed SessionState
 outcome s (commands.Edit edit) = edit_in s.batch s edit
 outcome s (commands.Print print) = stays s (printed s print)
-outcome s (commands.Show show) = stays s (shown s show)
+outcome s (commands.Show show) = stays s (shown_answer s show)
 outcome s commands.Begin = begin_in s.batch s
 outcome s commands.Commit = commit_in s.batch s
 outcome s commands.Abort = abort_in s.batch s
@@ -145,31 +145,31 @@ outcome s (commands.Broken rule) = stays s (Broken rule)
 
 -- profile, refusals: what is kept of a refusal by its answer: nothing once a command is accepted, the rule, or this where the edited
 -- source has a fault
-abbrev pub kept_by : Option Refused → Option Refused → Answer → Option Refused
-kept_by faulty before Accepted = None
-kept_by faulty before (Broken rule) = Some (kinds.Rule rule)
-kept_by faulty before (Faulty fault) = faulty
-kept_by faulty before answer = before
+abbrev pub refusal_kept : Option Refused → Option Refused → Answer → Option Refused
+refusal_kept faulty before Accepted = None
+refusal_kept faulty before (Broken rule) = Some (kinds.Rule rule)
+refusal_kept faulty before (Faulty fault) = faulty
+refusal_kept faulty before answer = before
 
 -- profile, refusals: the state keeps what was refused
 abbrev pub keeping : Option Refused → Performed SessionState → Performed SessionState
-keeping faulty p = record { answer = p.answer; next = record p.next { refused = kept_by faulty p.next.refused p.answer } }
+keeping faulty p = record { answer = p.answer; next = record p.next { refused = refusal_kept faulty p.next.refused p.answer } }
 
 -- profile, refusals: the source of a batch, as it is refused
 abbrev pub refused_batch : Option Draft → Option Refused
 refused_batch batch = option_map (λ draft. kinds.Batch draft.source) batch
 
 -- profile, refusals: an edit, a `begin`, a `commit` and an `abort` change what is kept of a refusal, and no other command does
-abbrev pub noted : SessionState → Command → Performed SessionState → Performed SessionState
-noted s (commands.Edit edit) p = keeping (Some (kinds.Edit edit)) p
-noted s commands.Begin p = keeping None p
-noted s commands.Commit p = keeping (refused_batch s.batch) p
-noted s commands.Abort p = keeping None p
-noted s command p = p
+abbrev pub noting_refusals : SessionState → Command → Performed SessionState → Performed SessionState
+noting_refusals s (commands.Edit edit) p = keeping (Some (kinds.Edit edit)) p
+noting_refusals s commands.Begin p = keeping None p
+noting_refusals s commands.Commit p = keeping (refused_batch s.batch) p
+noting_refusals s commands.Abort p = keeping None p
+noting_refusals s command p = p
 
 -- profile, session commands: what a command is answered, and the state after it
 unfoldable pub perform : SessionState → Command → Performed SessionState
-perform s command = noted s command (outcome s command)
+perform s command = noting_refusals s command (outcome s command)
 
 -- profile, answers: which commands may meet want of memory: edits, prints and queries, a `begin` outside a batch, a `commit` in one
 abbrev pub may_want_memory : SessionState → Command → Bool
@@ -183,7 +183,7 @@ may_want_memory s (commands.Broken rule) = false
 
 -- profile, answers: want of memory leaves the state as it was, but for the batch of a `commit`, which is closed
 abbrev pub after_want : SessionState → Command → SessionState
-after_want s commands.Commit = alone s
+after_want s commands.Commit = without_batch s
 after_want s _ = s
 
 -- profile: the machine of a session

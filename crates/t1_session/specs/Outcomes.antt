@@ -5,7 +5,6 @@ use Rattle.std.specs.declared.vec.Vec.{Vec}
 use Rattle.t1_frac.specs.declared.fault.Fault.{Fault}
 use Rattle.t1_frac.specs.declared.fault.Refusal.{Refusal}
 use Rattle.t1_frac.specs.declared.fault.Refusal.TheVariants as refusals
-use Rattle.t1_parts.specs.SourceParts.{SourceParts}
 use Rattle.t1_source.specs.declared.edit.Cause.{Cause}
 use Rattle.t1_source.specs.declared.edit.Cause.TheVariants as causes
 use Rattle.t1_code.specs.declared.parts.OutError.{OutError}
@@ -13,27 +12,14 @@ use Rattle.t1_code.specs.declared.parts.OutError.TheVariants as out
 use Rattle.t1_commands.specs.declared.answer.Answer.TheVariants.{Accepted, Broken, Faulty}
 use Rattle.t1_commands.specs.declared.command.Command.{Command}
 use Rattle.t1_commands.specs.Answers.{Performed}
-use Rattle.t1_session.specs.declared.refused.Refused.{Refused}
 use Rattle.t1_session.specs.declared.refused.Refused.TheVariants as kinds
 use Rattle.t1_session.specs.Machine.{keeping, outcome, perform, may_want_memory, after_want}
-use Rattle.t1_session.specs.State.{SessionView, SessionState}
+use Rattle.t1_session.specs.State.{SessionState}
 
 -- profile: an edit whose source is refused is refused for the same reason
 abbrev pub refused_source : Refusal → Cause
 refused_source (refusals.Fault fault) = causes.Fault fault
 refused_source refusals.Memory = causes.Memory
-
--- word: what was to be performed was accepted; or refused, by a rule, which changes nothing, or by a fault; or memory
--- ran out, where it may, and left this state; what was refused before is kept
-abbrev pub Took : {T : Type 0} → SessionState → Performed SessionState → Bool → SessionState → Result T Cause → SessionState → Type 0
-Took old p may_want want (Ok done) new = (p.answer ≡ Accepted) × (new ≡ p.next)
-Took old p may_want want (Err (causes.Rule rule)) new = (p.answer ≡ Broken rule) × (p.next ≡ old) × (new ≡ old)
-Took old p may_want want (Err (causes.Fault fault)) new = (p.answer ≡ Faulty fault) × (new ≡ p.next)
-Took old p may_want want (Err causes.Memory) new = (may_want ≡ true) × (new ≡ want)
-
--- word: the same, of a command
-abbrev pub TakesUnnoted : {T : Type 0} → SessionState → Command → Result T Cause → SessionState → Type 0
-TakesUnnoted old c result new = Took old (outcome old c) (may_want_memory old c) (after_want old c) result new
 
 -- profile: what was to be performed was accepted; or refused, by a rule, of which no more than the rule is kept, or by a fault; or
 -- memory ran out, where it may, and left this state
@@ -68,12 +54,3 @@ AnswersNoFault (Err out.Memory) = Unit {0}
 abbrev pub Finds : {E : Type 0} → Result (Option (Vec ℕ Global)) E → Result (Option (List ℕ)) Fault → Type 0
 Finds (Ok found) given = given ≡ Ok (option_map (λ text. text.items) found)
 Finds (Err e) given = Unit {0}
-
--- word: the session with this kept of a refusal
-abbrev pub with_refused : SessionView → Option Refused → SessionView
-with_refused v kept = record v { state = record v.state { refused = kept } }
-
--- word: what is kept of a batch whose source is refused, where that has a fault
-abbrev pub faulty_batch : Refusal → SourceParts → Option Refused
-faulty_batch (refusals.Fault fault) made = Some (kinds.Batch made)
-faulty_batch refusals.Memory made = None

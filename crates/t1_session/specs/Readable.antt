@@ -14,7 +14,7 @@ use Rattle.t1_commands.specs.declared.command.Command.{Command}
 use Rattle.t1_commands.specs.declared.print.Print.{Print}
 use Rattle.t1_commands.specs.declared.show.Show.{Show}
 use Rattle.t1_commands.specs.Answers.{answer_to}
-use Rattle.t1_session.specs.Machine.{machine, opened, printed, scratch, shown}
+use Rattle.t1_session.specs.Machine.{machine, opened, printed, scratch, shown_answer}
 use Rattle.t1_session.specs.State.{SessionState}
 
 -- profile: the source of a state has no fault
@@ -67,4 +67,4 @@ PrintsWithoutFault = (s : SessionState) (print : Print) → IsReadable s → Tel
 
 -- profile: no query of a readable state tells a fault
 abbrev pub ShowsWithoutFault : Type 0
-ShowsWithoutFault = (s : SessionState) (show : Show) → IsReadable s → TellsNoFault (shown s show)
+ShowsWithoutFault = (s : SessionState) (show : Show) → IsReadable s → TellsNoFault (shown_answer s show)

@@ -10,12 +10,11 @@ use Rattle.t1_run.specs.Run.{Key}
 use Rattle.t1_run.specs.Touched.{AreStale}
 use Rattle.t1_font.specs.Bodies.{bodies}
 use Rattle.t1_font.specs.Glyphs.{glyph_names}
-use Rattle.t1_font.specs.Runs.{counted}
+use Rattle.t1_font.specs.RunCounts.{counted}
 use Rattle.t1_outline.specs.Counting.{outline_runs}
-use Rattle.t1_cache.specs.Edited.{named}
-use Rattle.t1_cache.specs.Renewal.{IsOneOf}
-use Rattle.t1_cache.specs.Renewed.{Kept}
-use Rattle.t1_rerun.specs.Opened.{IsRunAfter}
+use Rattle.t1_cache.specs.EditKeys.{named}
+use Rattle.t1_cache.specs.Recorded.{IsOneOf, Kept}
+use Rattle.t1_rerun.specs.RunNumbers.{IsRunAfter}
 use Rattle.t1_commands.specs.declared.command.Command.{Command}
 use Rattle.t1_commands.specs.declared.command.Command.TheVariants as commands
 use Rattle.t1_held.specs.Batch.{Draft, keys}

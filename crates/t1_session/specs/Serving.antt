@@ -95,15 +95,15 @@ module _ {R W : Type 0} (remaining : R → Option (List ℕ)) (contents : W → 
   NeverOpens old new (Err (errors.Load fault)) = ⊥
 
   -- profile: the refusal of what no session can be opened on: its fault, or want of memory
-  abbrev pub Refuses : {T : Type 0} → Fault → Result T ServeError → Type 0
-  Refuses fault (Ok done) = ⊥
-  Refuses fault (Err errors.Read) = ⊥
-  Refuses fault (Err errors.Memory) = Unit {0}
-  Refuses fault (Err errors.Write) = ⊥
-  Refuses fault (Err (errors.Load reported)) = reported ≡ fault
+  abbrev pub RefusesToOpen : {T : Type 0} → Fault → Result T ServeError → Type 0
+  RefusesToOpen fault (Ok done) = ⊥
+  RefusesToOpen fault (Err errors.Read) = ⊥
+  RefusesToOpen fault (Err errors.Memory) = Unit {0}
+  RefusesToOpen fault (Err errors.Write) = ⊥
+  RefusesToOpen fault (Err (errors.Load reported)) = reported ≡ fault
 
   -- profile: a whole session: from the state that it opens with, unless memory ran out before; or nothing is read or
   -- written, and the refusal is reported
   abbrev pub Serves : {T : Type 0} → Result SessionState Fault → Streams R W → Streams R W → Result T ServeError → Type 0
   Serves (Ok state) old new result = Converses state old new result ⊎ NeverOpens old new result
-  Serves (Err fault) old new result = (new ≡ old) × Refuses fault result
+  Serves (Err fault) old new result = (new ≡ old) × RefusesToOpen fault result

@@ -1,9 +1,9 @@
 -- What contracts see of a session.
-use Rattle.std.specs.Prelude.{ℕ, List, Option, Some, None}
+use Rattle.std.specs.Prelude.{ℕ, List, Option}
 use Rattle.t1_parts.specs.SourceParts.{SourceParts}
 use Rattle.t1_pairs.specs.declared.pairs.Pair.{Pair}
-use Rattle.t1_cache.specs.Renewed.{Kept}
-use Rattle.t1_held.specs.Batch.{Draft, IsDraftOf}
+use Rattle.t1_cache.specs.Recorded.{Kept}
+use Rattle.t1_held.specs.Batch.{Draft}
 use Rattle.t1_session.specs.declared.refused.Refused.{Refused}
 use Rattle.t1_session.specs.Users.{UserTable}
 
@@ -22,8 +22,3 @@ pub record SessionView : Type 0 where
   pub kept : List Kept
   pub users : UserTable
   pub runs : ℕ
-
--- profile: the source of the batch that is open is what its edits made of this one
-abbrev pub IsOpenOn : SourceParts → Option Draft → Type 0
-IsOpenOn s None = Unit {0}
-IsOpenOn s (Some draft) = IsDraftOf s draft

@@ -1,7 +1,7 @@
 //! Commands performed and answered.
 ghost use Rattle.std.specs.Prelude.{◌≡◌, true, IfOk};
 ghost use Rattle.t1_commands.specs.AnswerTexts.{answer_text};
-ghost use Rattle.t1_commands.specs.Commands.{Makes};
+ghost use Rattle.t1_commands.specs.MadeCommands.{Makes};
 ghost use Rattle.t1_session.specs.Conversation.{Sends, AnswersCommand, IsPerformed};
 
 use crate::error::ServeError;

@@ -41,7 +41,7 @@ fn ends_line(after_return: bool, byte: u8) -> bool
 impl<'a> Dialogue<'a> {
     ghost use Rattle.t1_session.specs.Conversation.{fresh, EndsCommandLine, EndsLine, Feeds};
     ghost use Rattle.t1_session.specs.Conversation.{AnswersTheEnd};
-    ghost use Rattle.t1_session.specs.Dialogues.{conversation_of, opening_of};
+    ghost use Rattle.t1_session.specs.Dialogues.{conversation_of, opening_seen};
 
     /// A session before its first byte.
     pub fn new(alloc: Global, session: Performer<'a>) -> Dialogue<'a>
@@ -143,7 +143,7 @@ impl<'a> Dialogue<'a> {
     ) -> Result<(), ServeError>
         requires { self.old.opening ≡ None }
         ensures { EndsLine W.contents
-            (record (conversation_of self.old) { opening = Some (opening_of opening) })
+            (record (conversation_of self.old) { opening = Some (opening_seen opening) })
             (conversation_of self.new) writer.old writer.new result }
     {
         let Opened { heading, mut body } = opening;
@@ -203,7 +203,7 @@ impl<'a> Dialogue<'a> {
     ) -> Result<(), ServeError>
         requires { self.old.opening ≡ None }
         ensures { AnswersTheEnd W.contents
-            (record (conversation_of self.old) { opening = Some (opening_of opening) })
+            (record (conversation_of self.old) { opening = Some (opening_seen opening) })
             writer.old writer.new result }
     {
         let Opened { heading, body } = opening;

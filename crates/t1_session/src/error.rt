@@ -21,7 +21,7 @@ pub enum ServeError {
 
 impl From<Refusal> for ServeError {
     ghost use Rattle.std.specs.Prelude.{◌≡◌};
-    ghost use Rattle.t1_session.specs.Delivery.{reported_by_refusal};
+    ghost use Rattle.t1_session.specs.LiftedErrors.{reported_by_refusal};
 
     ghost from_gives = { λ refused error. error ≡ reported_by_refusal refused };
 
@@ -35,7 +35,7 @@ impl From<Refusal> for ServeError {
 
 impl From<OutError> for ServeError {
     ghost use Rattle.std.specs.Prelude.{◌≡◌};
-    ghost use Rattle.t1_session.specs.Delivery.{reported_by_writing};
+    ghost use Rattle.t1_session.specs.LiftedErrors.{reported_by_writing};
 
     ghost from_gives = { λ failed error. error ≡ reported_by_writing failed };
 

@@ -2,14 +2,15 @@
 //! session that edits and prints one.
 //!
 //! All of it is for users: [`serve`] answers commands from a reader, a [`Session`] has the same
-//! commands as calls, and [`assemble_source`], [`assemble_blocks`], [`assemble_pfa`] and
-//! [`measure_source`] write the files of a source in one call. They take types of other crates:
-//! sources and edits of `t1_source`, pairs of `t1_pairs`, readers and writers as `Counted` of
-//! `t1_code`, and faults of `t1_frac`.
+//! commands as calls, [`assemble_source`], [`assemble_blocks`], [`assemble_pfa`] and
+//! [`measure_source`] write the files of a source in one call, and [`check_source`] judges one.
+//! They take types of other crates: sources and edits of `t1_source`, pairs of `t1_pairs`, readers
+//! and writers as `Counted` of `t1_code`, and faults of `t1_frac`.
 #![tactic(auto)]
 
 mod answering;
 mod assembling;
+mod checking;
 mod dialogue;
 mod encoding;
 mod entries;
@@ -23,6 +24,7 @@ mod serving;
 mod session;
 
 pub use assembling::{assemble_blocks, assemble_pfa, assemble_source};
+pub use checking::check_source;
 pub use error::ServeError;
 pub use measuring::measure_source;
 pub use serving::serve;

@@ -6,13 +6,15 @@ ghost use Rattle.t1_pairs.specs.declared.pairs.Pair.{Pair};
 ghost use Rattle.t1_source.specs.Changes.{changed};
 ghost use Rattle.t1_source.specs.Editing.{edited};
 ghost use Rattle.t1_font.specs.SourceChecks.{source_check};
-ghost use Rattle.t1_refusal.specs.Telling.{fault_lines, fault_of, refusal_text};
-ghost use Rattle.t1_cache.specs.Renewed.{kept_of};
+ghost use Rattle.t1_refusal.specs.Telling.{refused_fault_lines, fault_of, refusal_text};
+ghost use Rattle.t1_cache.specs.Recorded.{kept_of};
 ghost use Rattle.t1_held.specs.Edits.{IsPreparedEdit};
 ghost use Rattle.t1_held.specs.Held.{IsHeld};
-ghost use Rattle.t1_session.specs.Outcomes.{faulty_batch, refused_source};
-ghost use Rattle.t1_session.specs.Refusing.{edited_lines, refused_after, refused_text, rule_line};
-ghost use Rattle.t1_session.specs.Refusing.{fault_of_edited, IsEditOfHeld};
+ghost use Rattle.t1_session.specs.Outcomes.{refused_source};
+ghost use Rattle.t1_session.specs.Unnoted.{faulty_batch};
+ghost use Rattle.t1_session.specs.Refusing.{edited_lines, refused_text, rule_line};
+ghost use Rattle.t1_session.specs.KeptRefusals.{refused_after};
+ghost use Rattle.t1_session.specs.KeptRefusals.{fault_of_edited, IsEditOfHeld};
 
 use std::alloc::{AllocError, Global};
 use std::mem;
@@ -145,7 +147,7 @@ fn fault_text(
     fault: &Fault,
 ) -> Result<Vec<u8>, AllocError>
     requires { IsEditOfHeld edit.now made.now held.now }
-    ensures { IfOk result (λ text. text.items ≡ fault_lines made.now.items fault.now) }
+    ensures { IfOk result (λ text. text.items ≡ refused_fault_lines made.now.items fault.now) }
 {
     match change_of_edit(alloc, edit) {
         Ok(change) => {

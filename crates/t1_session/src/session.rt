@@ -24,9 +24,10 @@ pub struct Session<'a> {
 
 impl<'a> Model for Session<'a> {
     ghost use Rattle.std.specs.Prelude.{map};
-    ghost use Rattle.t1_cache.specs.Renewed.{kept_of};
+    ghost use Rattle.t1_cache.specs.Recorded.{kept_of};
     ghost use Rattle.t1_held.specs.Held.{IsHeld};
-    ghost use Rattle.t1_session.specs.State.{IsOpenOn, SessionView};
+    ghost use Rattle.t1_session.specs.State.{SessionView};
+    ghost use Rattle.t1_session.specs.OpenBatch.{IsOpenOn};
     ghost use Rattle.t1_session.specs.Users.{user_table};
 
     ghost Value = { SessionView };
@@ -51,11 +52,11 @@ ghost use Rattle.t1_parts.specs.Printing.{text};
 ghost use Rattle.t1_parts.specs.Reading.{reads};
 ghost use Rattle.t1_code.specs.Parts.{Prints};
 ghost use Rattle.t1_font.specs.Glyphs.{glyph_names};
-ghost use Rattle.t1_font.specs.Runs.{counted};
+ghost use Rattle.t1_font.specs.RunCounts.{counted};
 ghost use Rattle.t1_font.specs.SourceChecks.{measured_source, source_check};
-ghost use Rattle.t1_cache.specs.Edited.{named};
-ghost use Rattle.t1_cache.specs.Kept.{KeepsAll};
-ghost use Rattle.t1_held.specs.Batch.{entry_edit, keys, IsEditedBy};
+ghost use Rattle.t1_cache.specs.EditKeys.{named};
+ghost use Rattle.t1_held.specs.Batch.{entry_edit, keys};
+ghost use Rattle.t1_held.specs.Drafting.{IsEditedBy};
 ghost use Rattle.t1_commands.specs.declared.command.Command.TheVariants as commands;
 ghost use Rattle.t1_commands.specs.declared.print.Print.TheVariants as prints;
 ghost use Rattle.t1_session.specs.FromScratch.{blocks_from_scratch, encoding_from_scratch};
@@ -67,10 +68,13 @@ ghost use Rattle.t1_commands.specs.Blocks.{block_size};
 ghost use Rattle.t1_commands.specs.declared.answer.Answer.TheVariants.{Data};
 ghost use Rattle.t1_commands.specs.AnswerTexts.{answer_text};
 ghost use Rattle.t1_session.specs.Machine.{blocks_answer, file_answer, found_answer, opened};
-ghost use Rattle.t1_session.specs.Machine.{judged, printed, refused_batch, shown};
+ghost use Rattle.t1_session.specs.Machine.{judged, printed, refused_batch, shown_answer};
 ghost use Rattle.t1_session.specs.Outcomes.{AnswersNoFault, Finds, Takes, TakesOrReturns};
-ghost use Rattle.t1_session.specs.Outcomes.{TakesUnnoted, Took, refused_source, with_refused};
-ghost use Rattle.t1_session.specs.Refusing.{OnFault, refused_after, refused_text};
+ghost use Rattle.t1_session.specs.Outcomes.{refused_source};
+ghost use Rattle.t1_session.specs.Unnoted.{TakesUnnoted, Took, with_refused};
+ghost use Rattle.t1_session.specs.Records.{AreFromScratch};
+ghost use Rattle.t1_session.specs.Refusing.{refused_text};
+ghost use Rattle.t1_session.specs.KeptRefusals.{OnFault, refused_after};
 ghost use Rattle.t1_session.specs.Reruns.{edition, AreKept, IsSameButForRuns, Reruns};
 ghost use Rattle.t1_session.specs.Reruns.{RerunsOrReturns, RunsForOutline};
 ghost use Rattle.t1_session.specs.RerunsByTest.{RerunsByTest};
@@ -111,7 +115,7 @@ impl<'a> Session<'a> {
     #[tactic(auto, using(crate::proofs::StateLaws::check_refused, crate::proofs::StateLaws::check_passed))]
     pub fn open(alloc: Global, source: Source<'a>, pairs: Pairs) -> Result<Session<'a>, Refusal>
         ensures checked { Gives (λ session. session.state) result (opened source.entry pairs) }
-        ensures right { IfOk result (λ session. KeepsAll session.state.source session.kept) }
+        ensures right { IfOk result (λ session. AreFromScratch session.state.source session.kept) }
         ensures users { IfOk result (λ session. AreUsers session.state.source session.users) }
         ensures runs { IfOk result (λ session. session.runs ≡ counted 0
             (length (glyph_names source.entry.items))) }
@@ -127,6 +131,7 @@ impl<'a> Session<'a> {
             batch: None,
             refused: None,
         };
+        session.records_are_right();
         session.users_are_right();
         Ok(session)
     }
@@ -152,13 +157,14 @@ impl<'a> Session<'a> {
     /// accepted.
     pub fn apply(&mut self, edit: Edit) -> Result<(), Cause>
         ensures takes { Takes self.old.state (commands.Edit edit) result self.new.state }
-        ensures right { KeepsAll self.new.state.source self.new.kept }
+        ensures right { AreFromScratch self.new.state.source self.new.kept }
         ensures users { AreUsers self.new.state.source self.new.users }
         ensures runs { Reruns (edition self.old.state (commands.Edit edit)) self.old result
             self.new }
     {
         self.reads_back();
         let taken = self.take(&edit);
+        self.records_are_right();
         self.users_are_right();
         self.keep(Some(Refused::Edit(edit)), &taken);
         taken
@@ -169,13 +175,14 @@ impl<'a> Session<'a> {
     pub fn try_apply(&mut self, edit: Edit) -> Result<(), (Cause, Edit)>
         ensures takes { TakesOrReturns self.old.state (commands.Edit edit) edit result
             self.new.state }
-        ensures right { KeepsAll self.new.state.source self.new.kept }
+        ensures right { AreFromScratch self.new.state.source self.new.kept }
         ensures users { AreUsers self.new.state.source self.new.users }
         ensures runs { RerunsOrReturns (edition self.old.state (commands.Edit edit)) self.old result
             self.new }
     {
         self.reads_back();
         let taken = self.take(&edit);
+        self.records_are_right();
         self.users_are_right();
         self.keep(None, &taken);
         match taken {
@@ -214,12 +221,13 @@ impl<'a> Session<'a> {
     /// batch with a fault is kept for `show_refusal`.
     pub fn commit(&mut self) -> Result<(), Cause>
         ensures takes { Takes self.old.state commands.Commit result self.new.state }
-        ensures right { KeepsAll self.new.state.source self.new.kept }
+        ensures right { AreFromScratch self.new.state.source self.new.kept }
         ensures users { AreUsers self.new.state.source self.new.users }
         ensures runs { Reruns (edition self.old.state commands.Commit) self.old result self.new }
     {
         self.reads_back();
         let (committed, faulty) = self.close_batch();
+        self.records_are_right();
         self.users_are_right();
         self.keep(faulty, &committed);
         committed
@@ -262,7 +270,6 @@ impl<'a> Session<'a> {
     fn close_batch(&mut self) -> (Result<(), Cause>, Option<Refused<'a>>)
         ensures takes { TakesUnnoted self.old.state commands.Commit result.0 self.new.state }
         ensures faulty { OnFault result.0 (result.1 ≡ refused_batch self.old.state.batch) }
-        ensures right { KeepsAll self.new.state.source self.new.kept }
         ensures runs { RerunsByTest (edition self.old.state commands.Commit) self.old result.0
             self.new }
     {
@@ -279,7 +286,6 @@ impl<'a> Session<'a> {
     #[tactic(auto, unfolding(crate::specs::Machine::outcome))]
     fn take(&mut self, edit: &Edit) -> Result<(), Cause>
         ensures takes { TakesUnnoted self.old.state (commands.Edit edit.now) result self.new.state }
-        ensures right { KeepsAll self.new.state.source self.new.kept }
         ensures runs { RerunsByTest (edition self.old.state (commands.Edit edit.now)) self.old
             result self.new }
     {
@@ -301,7 +307,6 @@ impl<'a> Session<'a> {
             (judged self.old.state (changed change.entry self.old.state.source self.old.state.pairs)
             (source_check (changed change.entry self.old.state.source self.old.state.pairs).0)) true
             self.old.state result self.new.state }
-        ensures right { KeepsAll self.new.state.source self.new.kept }
         ensures runs { RerunsByTest (Some
             (record {
               keys = named edit.now;
@@ -345,7 +350,6 @@ impl<'a> Session<'a> {
             (judged self.old.state (source.entry, pairs) (source_check source.entry)) true
             self.old.state result.0 self.new.state }
         ensures faulty { OnFault result.0 (result.1 ≡ Some (Refused.Batch source.entry)) }
-        ensures right { KeepsAll self.new.state.source self.new.kept }
         ensures runs { RerunsByTest (Some
             (record { keys = keys (map entry_edit entries.items); source = source.entry })) self.old
             result.0 self.new }
@@ -367,6 +371,13 @@ impl<'a> Session<'a> {
         self.pairs = pairs;
         settle(&mut self.held, ready);
         (Ok(()), None)
+    }
+
+    /// The records that are held are those of the source from scratch.
+    fn records_are_right(&self)
+        ensures { AreFromScratch self.now.state.source self.now.kept }
+    {
+        let _ = &self.held;
     }
 
     /// The users that are held are those of the source from scratch.
@@ -643,7 +654,7 @@ impl<'a> Session<'a> {
         out: &mut Counted<W>,
     ) -> Result<(), OutError>
         ensures prints { Prints W.contents out.old out.new
-            (Ok (answer_text (shown self.old.state show))) result }
+            (Ok (answer_text (shown_answer self.old.state show))) result }
         ensures same { self.new.state ≡ self.old.state }
     {
         match show {

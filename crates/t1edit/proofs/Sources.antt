@@ -6,8 +6,9 @@ use Rattle.t1_session.specs.State.{SessionState}
 use Rattle.t1_disassemble.specs.declared.fault.FontFault.{FontFault}
 use Rattle.t1_session.specs.declared.error.ServeError.{ServeError}
 use Rattle.t1_session.specs.declared.error.ServeError.TheVariants as errors
-use Rattle.t1edit.specs.FileErrors.{served}
-use Rattle.t1edit.specs.Sources.{LacksSource, OnSource}
+use Rattle.t1edit.specs.Stopping.{served}
+use Rattle.t1edit.specs.Sources.{OnSource}
+use Rattle.t1edit.specs.Answering.{LacksSource}
 use Rattle.t1edit.specs.declared.file_error.FileError.{FileError}
 use Rattle.t1edit.specs.declared.file_error.FileError.TheVariants.{Served, Unread, Font}
 

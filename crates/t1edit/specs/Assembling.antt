@@ -1,5 +1,5 @@
 -- The form of an assembled file.
-use Rattle.std.specs.Prelude.{◌≡◌, ℕ, Bool, true, false, List, Option, Some, None, Result, Ok, Err}
+use Rattle.std.specs.Prelude.{ℕ, Bool, true, false, List, Option, Some, None, Result, Ok, Err}
 use Rattle.t1_frac.specs.declared.fault.Fault.{Fault}
 use Rattle.t1_code.specs.Pfb.{whole_file}
 use Rattle.t1_commands.specs.Blocks.{block_size}
@@ -21,10 +21,6 @@ abbrev pub form : Bool → Option (List ℕ) → Result Form Stop
 form true block = Ok Pfa
 form false None = Ok Pfb
 form false (Some word) = blocks_form (block_size (number_of word))
-
--- word: a call answers with that form
-abbrev pub FormIs : Bool → Option (List ℕ) → Result Form Stop → Type 0
-FormIs pfa block result = result ≡ form pfa block
 
 -- profile: the file of the bytes of a source in a form, or the first fault
 abbrev pub file_in_form : Form → List ℕ → Result (List ℕ) Fault

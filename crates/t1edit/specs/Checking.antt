@@ -1,33 +1,12 @@
 -- What checking a source answers.
 use Rattle.std.specs.Prelude.{◌≡◌, ℕ, List, Result, Ok, Err}
-use Rattle.t1_frac.specs.declared.fault.Refusal.{Refusal}
-use Rattle.t1_frac.specs.declared.fault.Refusal.TheVariants as refusals
 use Rattle.t1_session.specs.declared.error.ServeError.{ServeError}
 use Rattle.t1_session.specs.declared.error.ServeError.TheVariants as errors
 use Rattle.t1_frac.specs.declared.fault.Fault.{Fault}
-use Rattle.t1_frac.specs.Outcome.{◌>>=◌}
-use Rattle.t1_session.specs.Delivery.{reported_by_refusal}
-use Rattle.t1_session.specs.Files.{metrics_file}
+use Rattle.t1_session.specs.Files.{verdict}
 use Rattle.t1_disassemble.specs.declared.fault.FontFault.{FontFault}
 use Rattle.t1edit.specs.Sources.{AnswersAs, TellsFontFault}
 use Rattle.t1edit.specs.declared.file_error.FileError.{FileError}
-
--- word: what judging answers where measuring answers this
-abbrev pub judged_by : {T : Type 0} → Result T ServeError → Result (Unit {0}) Refusal
-judged_by (Ok done) = Ok tt
-judged_by (Err errors.Write) = Ok tt
-judged_by (Err (errors.Load fault)) = Err (refusals.Fault fault)
-judged_by (Err errors.Read) = Err refusals.Memory
-judged_by (Err errors.Memory) = Err refusals.Memory
-
--- profile: a source and its pairs pass where they have an AFM file, and are refused by the fault that measuring them reports
-abbrev pub verdict : List ℕ → List ℕ → Result (Unit {0}) Fault
-verdict source kerning = metrics_file source kerning >>= λ file. Ok tt
-
--- word: what judging answers, as a call over whole files does
-abbrev pub reported : {T : Type 0} → Result T Refusal → Result T ServeError
-reported (Ok done) = Ok done
-reported (Err refused) = Err (reported_by_refusal refused)
 
 -- profile: what is judged passes where the verdict is so, and is refused by its fault, unless memory ran out
 abbrev pub Judges : {T : Type 0} → Result (Unit {0}) Fault → Result T ServeError → Type 0

@@ -32,8 +32,8 @@ in_brackets [] = []
 in_brackets (c ∷ rest) = codes " (" ++ (c ∷ rest ++ codes ")")
 
 -- profile, faults: the line that says what is wrong, and where
-abbrev pub head_line : List ℕ → List Section → FoundFault → List ℕ
-head_line path sections fault =
+abbrev pub fault_heading : List ℕ → List Section → FoundFault → List ℕ
+fault_heading path sections fault =
     position_text path fault ++ (title_text sections fault ++ (after_colon fault.word ++ (in_brackets (hint fault) ++ codes "\n")))
 
 -- profile, faults: what stands under a byte in front of the word: a blank as wide
@@ -59,12 +59,12 @@ excerpt Nowhere ls fault = []
 excerpt place ls fault = short_line (slice_index_or ls (fault.line - 1) []) fault.column fault.word
 
 -- profile, faults: a call of a Subr
-abbrev pub call_text : ℕ → List ℕ
-call_text n = codes ", subr " ++ decimal n
+abbrev pub subr_call_text : ℕ → List ℕ
+subr_call_text n = codes ", subr " ++ decimal n
 
 -- profile, faults: the line of a glyph that met a fault in a Subr, and of the calls on the way
 abbrev pub chain_line : CallChain → List ℕ
-chain_line chain = codes "    in glyph " ++ (chain.glyph ++ (flat_map call_text chain.subrs ++ codes "\n"))
+chain_line chain = codes "    in glyph " ++ (chain.glyph ++ (flat_map subr_call_text chain.subrs ++ codes "\n"))
 
 -- profile, faults: what stands before composites
 unfoldable pub composites_head : List ℕ
@@ -82,7 +82,7 @@ composites_line names = listed_line (listed (codes ", ") names)
 -- profile, faults: all lines of a fault
 abbrev pub fault_lines : List ℕ → List Section → List (List ℕ) → FoundFault → List ℕ
 fault_lines path sections ls fault =
-    head_line path sections fault ++ (excerpt fault.place ls fault ++ (flat_map chain_line fault.chains ++ composites_line fault.composites))
+    fault_heading path sections fault ++ (excerpt fault.place ls fault ++ (flat_map chain_line fault.chains ++ composites_line fault.composites))
 
 -- profile, faults: all lines of the faults of a file that has these lines
 abbrev pub faults_lines : List ℕ → List Section → List (List ℕ) → List FoundFault → List ℕ

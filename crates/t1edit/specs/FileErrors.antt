@@ -1,5 +1,5 @@
 -- Why a call over the bytes of a file stops, and how that is told.
-use Rattle.std.specs.Prelude.{ℕ, List, ◌++◌, Result, Ok, Err, codes}
+use Rattle.std.specs.Prelude.{ℕ, List, ◌++◌, codes}
 use Rattle.t1_commands.specs.AnswerTexts.{fault_text}
 use Rattle.t1_disassemble.specs.declared.fault.FontRefusal.{FontRefusal}
 use Rattle.t1_disassemble.specs.declared.fault.FontRefusal.TheVariants as refusals
@@ -13,11 +13,6 @@ use Rattle.t1edit.specs.declared.file_error.FileError.TheVariants.{Served, Unrea
 abbrev pub told_of_font : FontRefusal → FileError
 told_of_font (refusals.Fault fault) = Font fault
 told_of_font refusals.Memory = Served Memory
-
--- word: what a call over a source answers, as one over a file
-abbrev pub served : {T : Type 0} → Result T ServeError → Result T FileError
-served (Ok done) = Ok done
-served (Err error) = Err (Served error)
 
 -- profile: an error in words
 abbrev pub error_text : ServeError → List ℕ

@@ -1,3 +1,4 @@
+pub mod Answering
 pub mod Assembling
 pub mod Checking
 pub mod Disassembling
@@ -12,4 +13,5 @@ pub mod Reporting
 pub mod Several
 pub mod Sources
 pub mod Status
+pub mod Stopping
 pub mod Writing

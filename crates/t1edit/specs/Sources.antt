@@ -19,20 +19,6 @@ abbrev pub source_in : Kind → List ℕ → Result (List ℕ) FontFault
 source_in kinds.Source file = Ok file
 source_in kinds.Font file = disassembled file
 
--- word: why there is no source: the fault that the definition gives, or want of memory
-abbrev pub LacksSource : FileError → Result (List ℕ) FontFault → Type 0
-LacksSource (Font fault) given = given ≡ Err fault
-LacksSource (Served errors.Memory) given = Unit {0}
-LacksSource (Served (errors.Load fault)) given = ⊥
-LacksSource (Served errors.Read) given = ⊥
-LacksSource (Served errors.Write) given = ⊥
-LacksSource (Unread words) given = ⊥
-
--- word: a call answers the source that the definition gives, or why there is none
-abbrev pub GivesSource : {X : Type 0} → (X → List ℕ) → Result X FileError → Result (List ℕ) FontFault → Type 0
-GivesSource view (Ok text) given = given ≡ Ok (view text)
-GivesSource view (Err error) given = LacksSource error given
-
 -- profile: a call over a file answers as one over its source does, and tells no fault of a font
 abbrev pub AnswersAs : {T : Type 0} → (Result T ServeError → Type 0) → Result T FileError → Type 0
 AnswersAs does (Ok done) = does (Ok done)

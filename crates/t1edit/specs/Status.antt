@@ -1,27 +1,13 @@
 -- The exit statuses of the program, and its lines on standard error.
 use Rattle.std.specs.Prelude.{◌≡◌, ◌⊎◌, ◌++◌, ℕ, List, Option, Result, Ok, Err, codes}
 use Rattle.t1_code.specs.Counted.{Tally, WritesAll, WritesFront}
-use Rattle.t1_session.specs.declared.error.ServeError.{ServeError}
-use Rattle.t1_session.specs.declared.error.ServeError.TheVariants.{Write, Memory}
 use Rattle.t1_disassemble.specs.declared.fault.FontRefusal.{FontRefusal}
 use Rattle.t1edit.specs.FileErrors.{file_error_text, status_of_file, told_of_font}
 use Rattle.t1edit.specs.declared.file_error.FileError.{FileError}
-use Rattle.t1edit.specs.declared.file_error.FileError.TheVariants.{Served}
 use Rattle.t1edit.specs.declared.status.Misuse.{Misuse}
 use Rattle.t1edit.specs.declared.status.Misuse.TheVariants.{InputTwice, InputOfSession, UnknownCode, NoText, BlockLength, OutputOverSource, OutputOverPairs, OutputOverFont}
 use Rattle.t1edit.specs.declared.status.Stop.{Stop}
 use Rattle.t1edit.specs.declared.status.Stop.TheVariants.{Rejected, Misused, Failed, Told}
-use Rattle.t1edit.specs.declared.unopened.Unopened.{Unopened}
-use Rattle.t1edit.specs.declared.unopened.Unopened.TheVariants as unopened
-
--- word: a call over a source stopped
-abbrev pub stop_of_serving : ServeError → Stop
-stop_of_serving error = Failed (Served error)
-
--- word: an output that can't be opened is a failed write, or want of memory
-abbrev pub stop_of_unopened : Unopened → Stop
-stop_of_unopened unopened.Refused = stop_of_serving Write
-stop_of_unopened (unopened.Memory want) = stop_of_serving Memory
 
 -- profile: the fault of a font's file, or want of memory
 abbrev pub stop_of_font : FontRefusal → Stop

@@ -9,15 +9,15 @@ use Rattle.t1edit.specs.declared.output.Destination.TheVariants as destinations
 use Rattle.t1edit.specs.declared.output.Ended.{Ended}
 use Rattle.t1edit.specs.declared.output.Ended.TheVariants as endings
 use Rattle.t1edit.specs.declared.output.Output.{Output}
-use Rattle.t1edit.specs.Status.{stop_of_serving}
+use Rattle.t1edit.specs.Stopping.{stop_of_serving}
 use Rattle.t1edit.specs.declared.status.Stop.{Stop}
 use Rattle.t1edit.specs.declared.unopened.Unopened.{Unopened}
 use Rattle.t1edit.specs.declared.unopened.Unopened.TheVariants as unopened
 
 -- word: an output isn't open for want of memory
-abbrev pub WantsMemory : Unopened → Type 0
-WantsMemory (unopened.Memory want) = Unit {0}
-WantsMemory unopened.Refused = ⊥
+abbrev pub OutputWantsMemory : Unopened → Type 0
+OutputWantsMemory (unopened.Memory want) = Unit {0}
+OutputWantsMemory unopened.Refused = ⊥
 
 -- word: want of memory is told of an error of the system that says so, and of no other
 abbrev pub IsToldOf : Error → Unopened → Type 0

@@ -30,7 +30,8 @@ pub enum Form {
 
 ghost use Rattle.std.specs.Prelude.{option_map};
 ghost use Rattle.t1_session.specs.Delivery.{Delivers};
-ghost use Rattle.t1edit.specs.Assembling.{FormIs, file_in_form};
+ghost use Rattle.t1edit.specs.Assembling.{file_in_form};
+ghost use Rattle.t1edit.specs.Answering.{FormIs};
 ghost use Rattle.t1edit.specs.Sources.{OnSource, source_in as source_in_file};
 
 use crate::file_error::{FileError, served};

@@ -1,7 +1,7 @@
 //! A file beside the one whose place it takes once it is whole.
 ghost use Rattle.std.specs.Prelude.{◌≡◌, IfErr, IfOk, IsOk};
 ghost use Rattle.std.specs.Io.{WritesAtMost};
-ghost use Rattle.t1edit.specs.Status.{stop_of_serving};
+ghost use Rattle.t1edit.specs.Stopping.{stop_of_serving};
 ghost use Rattle.t1edit.specs.Writing.{HandsOn};
 
 mod steps;

@@ -1,9 +1,9 @@
 //! The faults of a file as lines, which people and editors read.
 ghost use Rattle.std.specs.Prelude.{◌≡◌, ◌++◌, codes, flat_map, map, take, IfOk, OnOk};
 ghost use Rattle.t1_text.specs.Lines.{lines};
-ghost use Rattle.t1edit.specs.FaultLines.{after_colon, call_text, chain_line};
+ghost use Rattle.t1edit.specs.FaultLines.{after_colon, subr_call_text, chain_line};
 ghost use Rattle.t1edit.specs.FaultLines.{composites_head as head_of_composites, composites_line};
-ghost use Rattle.t1edit.specs.FaultLines.{excerpt, fault_lines, faults_lines, head_line};
+ghost use Rattle.t1edit.specs.FaultLines.{excerpt, fault_lines, faults_lines, fault_heading};
 ghost use Rattle.t1edit.specs.FaultLines.{in_brackets, listed_line, marked_line, marks};
 ghost use Rattle.t1edit.specs.FaultLines.{position_text, short_line, title_text, under};
 
@@ -86,7 +86,7 @@ fn push_head(
     sections: &[Section],
     fault: &FoundFault<'_>,
 ) -> Result<(), AllocError>
-    ensures { OnOk result (text.new.items ≡ text.old.items ++ head_line path.now sections.now
+    ensures { OnOk result (text.new.items ≡ text.old.items ++ fault_heading path.now sections.now
         fault.now) }
 {
     let hint = hint_on(alloc, fault)?;
@@ -197,7 +197,7 @@ fn push_excerpt(
 
 /// Adds calls of Subrs.
 fn push_calls(text: &mut Vec<u8>, subrs: &[u16]) -> Result<(), AllocError>
-    ensures { OnOk result (text.new.items ≡ text.old.items ++ flat_map call_text subrs.now) }
+    ensures { OnOk result (text.new.items ≡ text.old.items ++ flat_map subr_call_text subrs.now) }
 {
     for subr in subrs {
         let mut digits = Buffer::new();

@@ -1,7 +1,8 @@
 //! Why a call over the bytes of a file stops.
 ghost use Rattle.std.specs.Prelude.{◌≡◌};
 ghost use Rattle.t1_code.specs.Counted.{Writes};
-ghost use Rattle.t1edit.specs.FileErrors.{file_error_text, served, status_of_file};
+ghost use Rattle.t1edit.specs.FileErrors.{file_error_text, status_of_file};
+ghost use Rattle.t1edit.specs.Stopping.{served};
 ghost use Rattle.t1edit.specs.Status.{line_with};
 
 use crate::line::put_text_line;

@@ -1,7 +1,8 @@
 //! What a file is that the command line names as the source: a source, or a font of which the
 //! source is made.
 ghost use Rattle.std.specs.Prelude.{◌≡◌};
-ghost use Rattle.t1edit.specs.Sources.{GivesSource, kind_of, source_in};
+ghost use Rattle.t1edit.specs.Sources.{kind_of, source_in};
+ghost use Rattle.t1edit.specs.Answering.{GivesSource};
 
 use crate::file_error::FileError;
 use std::alloc::Global;

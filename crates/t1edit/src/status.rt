@@ -94,7 +94,7 @@ impl From<Misuse> for Stop {
 
 impl From<ServeError> for Stop {
     ghost use Rattle.std.specs.Prelude.{◌≡◌};
-    ghost use Rattle.t1edit.specs.Status.{stop_of_serving};
+    ghost use Rattle.t1edit.specs.Stopping.{stop_of_serving};
 
     ghost from_gives = { λ error stop. stop ≡ stop_of_serving error };
 
@@ -105,7 +105,7 @@ impl From<ServeError> for Stop {
 
 impl From<Unopened> for Stop {
     ghost use Rattle.std.specs.Prelude.{◌≡◌};
-    ghost use Rattle.t1edit.specs.Status.{stop_of_unopened};
+    ghost use Rattle.t1edit.specs.Stopping.{stop_of_unopened};
 
     ghost from_gives = { λ unopened stop. stop ≡ stop_of_unopened unopened };
 

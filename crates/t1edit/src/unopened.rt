@@ -26,9 +26,9 @@ pub enum Unopened {
 }
 
 impl From<AllocError> for Unopened {
-    ghost use Rattle.t1edit.specs.Writing.{WantsMemory};
+    ghost use Rattle.t1edit.specs.Writing.{OutputWantsMemory};
 
-    ghost from_gives = { λ _ unopened. WantsMemory unopened };
+    ghost from_gives = { λ _ unopened. OutputWantsMemory unopened };
 
     fn from(error: AllocError) -> Unopened {
         Unopened::Memory(WantOfMemory::from(error))

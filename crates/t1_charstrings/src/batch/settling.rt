@@ -6,7 +6,7 @@ ghost use Rattle.t1_run.specs.Run.{Key};
 ghost use Rattle.t1_charstrings.specs.Batch.{gone_key, is_gone, fresh_over};
 ghost use Rattle.t1_charstrings.specs.Changed.{Sets};
 ghost use Rattle.t1_charstrings.specs.Entries.{glyph_charstring, subr_charstring};
-ghost use Rattle.t1_charstrings.specs.Kept.{kept_at};
+ghost use Rattle.t1_charstrings.specs.Kept.{charstring_at};
 
 use crate::changed::{insert_glyph, insert_subr};
 use crate::edited::Gone;
@@ -32,8 +32,8 @@ fn take_one_out(charstrings: &mut Charstrings, gone: &Gone)
 /// Takes the charstrings of entries out. It takes no memory and can't fail.
 pub(crate) fn take_out(charstrings: &mut Charstrings, gone: &[Gone])
     ensures kept { (k : Key)
-        → kept_at charstrings.new k
-        ≡ (if is_gone gone.now k then None else kept_at charstrings.old k) }
+        → charstring_at charstrings.new k
+        ≡ (if is_gone gone.now k then None else charstring_at charstrings.old k) }
     ensures room { (spare charstrings.old.subrs ≤ spare charstrings.new.subrs)
         × (spare charstrings.old.glyphs ≤ spare charstrings.new.glyphs) }
 {
@@ -78,7 +78,7 @@ pub(crate) fn put_in(charstrings: &mut Charstrings, fresh: Charstrings)
     ensures { length fresh.subrs.entries ≤ spare charstrings.old.subrs
         → length fresh.glyphs.entries ≤ spare charstrings.old.glyphs
         → (k : Key)
-        → kept_at charstrings.new k ≡ fresh_over fresh charstrings.old k }
+        → charstring_at charstrings.new k ≡ fresh_over fresh charstrings.old k }
 {
     let Charstrings { subrs, glyphs } = fresh;
     put_subrs(charstrings, subrs);

@@ -9,8 +9,9 @@ ghost use Rattle.t1_run.specs.Run.{Key, Subr, Glyph};
 ghost use Rattle.t1_font.specs.Assembly.{file_check};
 ghost use Rattle.t1_font.specs.Bodies.{bodies_check};
 ghost use Rattle.t1_cache.specs.declared.records.Named.TheVariants as named;
-ghost use Rattle.t1_cache.specs.Users.{key_of};
-ghost use Rattle.t1_held.specs.Batch.{entry_edit, keys, AreBatchChanges, IsEditedBy};
+ghost use Rattle.t1_cache.specs.EditKeys.{key_of};
+ghost use Rattle.t1_held.specs.Batch.{entry_edit, keys};
+ghost use Rattle.t1_held.specs.Drafting.{AreBatchChanges, IsEditedBy};
 ghost use Rattle.t1_held.specs.Passing.{all_removed, after_item, after_items, changes_by, item_put};
 ghost use Rattle.t1_held.specs.Passing.{items_put, mark_at, put_of, removed_at, without_key};
 

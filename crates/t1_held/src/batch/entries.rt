@@ -2,7 +2,7 @@
 ghost use Rattle.std.specs.Prelude.{◌≡◌, IfOk};
 ghost use Rattle.std.specs.Option.{option_map};
 ghost use Rattle.t1_run.specs.Run.{Glyph};
-ghost use Rattle.t1_cache.specs.Users.{key_of};
+ghost use Rattle.t1_cache.specs.EditKeys.{key_of};
 ghost use Rattle.t1_rerun.specs.Renewing.{entry_key, number_key};
 ghost use Rattle.t1_held.specs.Batch.{adds, entry_edit};
 

@@ -2,7 +2,7 @@
 ghost use Rattle.std.specs.Prelude.{◌≡◌, ℕ, List, None, Some, IfOk, OnOk, nat_eq, if◌then◌else◌};
 ghost use Rattle.std.specs.Str.{bytes_eq};
 ghost use Rattle.t1_run.specs.Run.{Key, Subr, Glyph};
-ghost use Rattle.t1_cache.specs.Users.{key_of};
+ghost use Rattle.t1_cache.specs.EditKeys.{key_of};
 ghost use Rattle.t1_held.specs.Passing.{all_marked, glyph_mark, mark_at, marked, none_sought};
 ghost use Rattle.t1_held.specs.Passing.{subr_mark, with_mark, without_key};
 

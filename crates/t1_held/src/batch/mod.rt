@@ -38,7 +38,8 @@ ghost use Rattle.std.specs.Option.{option_map, option_to_list};
 ghost use Rattle.t1_parts.specs.SourceParts.{SourceParts};
 ghost use Rattle.t1_source.specs.WellFormed.{IsWellFormed};
 ghost use Rattle.t1_rerun.specs.Renewing.{entry_key};
-ghost use Rattle.t1_held.specs.Batch.{adds, entry_edit, Drafts, IsDraftOf};
+ghost use Rattle.t1_held.specs.Batch.{adds, entry_edit};
+ghost use Rattle.t1_held.specs.Drafting.{Drafts, IsDraftOf};
 
 use crate::batch::entries::edited_entry;
 use std::alloc::{AllocError, Global};

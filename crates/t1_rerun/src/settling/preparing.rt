@@ -9,7 +9,7 @@ ghost use Rattle.t1_cache.specs.declared.records.Named.TheVariants as named;
 ghost use Rattle.t1_cache.specs.Bodies.{record_bodies};
 ghost use Rattle.t1_cache.specs.Renewed.{reruns_by_name};
 ghost use Rattle.t1_cache.specs.Room.{count_at};
-ghost use Rattle.t1_cache.specs.Users.{wanted};
+ghost use Rattle.t1_cache.specs.Users.{pairs_of_key};
 ghost use Rattle.t1_rerun.specs.Settled.{changed_keys, AreDistinctKeys};
 ghost use Rattle.t1_rerun.specs.Steps.{entry_change, inserts, new_run, new_run_of, some_inserts};
 ghost use Rattle.t1_rerun.specs.Steps.{takes_out, AreStepsOf, AreTakenOut, IsStepOf};
@@ -188,7 +188,7 @@ pub fn steps_with_room(
     requires { AreDistinctKeys (changed_keys changes.items) }
     ensures steps { IfOk result
         (λ steps.
-        AreStepsOf (new_run (reruns_by_name runs.old.entries)) (wanted joins.now)
+        AreStepsOf (new_run (reruns_by_name runs.old.entries)) (pairs_of_key joins.now)
         records.now changes.items steps.items) }
     ensures runs { IfOk result
         (λ steps.

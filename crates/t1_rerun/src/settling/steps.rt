@@ -3,10 +3,11 @@ ghost use Rattle.std.specs.Prelude.{◌≡◌, ◌<◌, ◌≤◌, None, filter,
 ghost use Rattle.indexmap.specs.IndexMap.{spare};
 ghost use Rattle.t1_run.specs.Touched.{is_key_of};
 ghost use Rattle.t1_cache.specs.Changed.{PutsBody, SetsBody, SetsUsers, UsesUp};
-ghost use Rattle.t1_cache.specs.Renewed.{kept_of};
-ghost use Rattle.t1_cache.specs.Users.{key_of, users_at};
+ghost use Rattle.t1_cache.specs.Recorded.{kept_of};
+ghost use Rattle.t1_cache.specs.Users.{users_at};
+ghost use Rattle.t1_cache.specs.EditKeys.{key_of};
 ghost use Rattle.t1_run.specs.Run.{Key};
-ghost use Rattle.t1_rerun.specs.Steps.{after, after_all, seen, AreTakenOut};
+ghost use Rattle.t1_rerun.specs.Steps.{seen_after, after_all, seen, AreTakenOut};
 
 use t1_cache::{
     GlyphRecord, Named, Names, Records, SubrRecord, put_glyph, put_in_subr, put_last_glyph,
@@ -59,7 +60,7 @@ fn put(records: &mut Records, named: &Named, body: Body)
 fn change_one(records: &mut Records, step: Step)
     requires subrs { 0 < spare records.old.subrs }
     requires glyphs { 0 < spare records.old.glyphs }
-    ensures seen { seen records.new ≡ after step (seen records.old) }
+    ensures seen { seen records.new ≡ seen_after step (seen records.old) }
     ensures room { UsesUp 1 records.old records.new }
 {
     match step {

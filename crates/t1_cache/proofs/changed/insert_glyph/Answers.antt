@@ -5,7 +5,7 @@ use Rattle.indexmap.proofs.CallerLemmas.{insert_entry-new}
 use Rattle.t1_cache.specs.declared.records.GlyphRecord.{GlyphRecord}
 use Rattle.t1_cache.specs.declared.records.Records.{Records}
 use Rattle.t1_cache.specs.Bodies.{glyph_body, record_bodies}
-use Rattle.t1_cache.specs.Renewed.{kept_of}
+use Rattle.t1_cache.specs.Recorded.{kept_of}
 use Rattle.t1_cache.specs.Users.{among, glyph_users, lists, users_at, users_of, HasUserRoom}
 use Rattle.t1_font.proofs.Keys.{at-key}
 use Rattle.t1_cache.proofs.Changing.{kept-last, nothing-read, reads-inserted, room-inserted, users-inserted}

@@ -4,7 +4,7 @@ use Rattle.t1_run.specs.Run.{Glyph, body_at, key_eq}
 use Rattle.t1_cache.specs.declared.records.GlyphRecord.{GlyphRecord}
 use Rattle.t1_cache.specs.declared.records.Records.{Records}
 use Rattle.t1_cache.specs.Bodies.{glyph_body, record_bodies}
-use Rattle.t1_cache.specs.Renewed.{kept_of}
+use Rattle.t1_cache.specs.Recorded.{kept_of}
 use Rattle.t1_cache.specs.Users.{glyph_users, users_at, users_of}
 use Rattle.std.specs.Option.{option_map}
 use Rattle.t1_font.proofs.Keys.{at-key}

@@ -3,7 +3,7 @@ use Rattle.indexmap.proofs.CallerLemmas.{filter-RetainsPairs}
 use Rattle.t1_cache.specs.declared.records.Records.{Records}
 use Rattle.t1_cache.specs.Bodies.{glyph_body, record_bodies}
 use Rattle.t1_run.specs.Run.{body_at}
-use Rattle.t1_cache.specs.Renewed.{kept_of}
+use Rattle.t1_cache.specs.Recorded.{kept_of}
 use Rattle.t1_cache.specs.Users.{glyph_users, has_name, is_key_among, users_at, users_of}
 use Rattle.t1_font.proofs.Keys.{at-key}
 use Rattle.t1_cache.proofs.Retaining.{kept-all, kept-left, reads-left}

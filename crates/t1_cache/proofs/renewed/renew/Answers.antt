@@ -2,7 +2,8 @@ use Rattle.std.proofs.Common.{ap, map, sym, refl, ◌∙◌}
 use Rattle.std.specs.Str.{bytes_eq}
 use Rattle.t1_cache.specs.declared.records.GlyphRecord.{GlyphRecord}
 use Rattle.t1_cache.specs.Bodies.{glyph_body}
-use Rattle.t1_cache.specs.Renewed.{kept_of, with_run}
+use Rattle.t1_cache.specs.Renewed.{with_run}
+use Rattle.t1_cache.specs.Recorded.{kept_of}
 use Rattle.t1_cache.specs.Users.{glyph_users, users_of}
 use Rattle.t1_cache.proofs.Places.{with-put, with-none}
 use Rattle.t1_cache.proofs.Names.{entries-once}

@@ -1,7 +1,8 @@
 use Rattle.std.proofs.Common.{Vec, Global, ℕ, ◌∙◌, ap, length, map, sym}
 use Rattle.t1_cache.specs.declared.records.NewRun.{NewRun}
 use Rattle.t1_cache.specs.declared.records.Rerun.{Rerun}
-use Rattle.t1_cache.specs.Renewed.{kept_of, rerun_by_name, reruns_by_name, with_reruns, with_run}
+use Rattle.t1_cache.specs.Renewed.{rerun_by_name, reruns_by_name, with_reruns, with_run}
+use Rattle.t1_cache.specs.Recorded.{kept_of}
 use Rattle.t1_font.proofs.Lookups.{none-found}
 use Rattle.t1_cache.proofs.Rerunning.{all-renewed, last-by-name, last-rerun, none-by-name}
 use Rattle.t1_cache.proofs.renewed.renew_by_name.Goals as goal

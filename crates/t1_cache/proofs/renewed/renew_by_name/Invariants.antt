@@ -1,6 +1,7 @@
 use Rattle.std.proofs.Common.{◌≡◌, ℕ, List, map, length}
 use Rattle.t1_cache.specs.Bodies.{glyph_body}
-use Rattle.t1_cache.specs.Renewed.{kept_of, reruns_by_name, with_reruns}
+use Rattle.t1_cache.specs.Renewed.{reruns_by_name, with_reruns}
+use Rattle.t1_cache.specs.Recorded.{kept_of}
 use Rattle.t1_cache.specs.Users.{glyph_users}
 use Rattle.t1_cache.proofs.renewed.renew_by_name.Given as goal
 

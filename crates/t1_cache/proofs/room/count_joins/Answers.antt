@@ -2,7 +2,8 @@ use Rattle.std.proofs.Common.{Vec, Global, ◌∙◌, ◌+◌, ap, arith, cond, 
 use Rattle.std.proofs.lemmas.List.{take_all}
 use Rattle.t1_cache.specs.declared.records.Named.{Named}
 use Rattle.t1_run.specs.Run.{key_eq}
-use Rattle.t1_cache.specs.Users.{key_of, wanted}
+use Rattle.t1_cache.specs.Users.{pairs_of_key}
+use Rattle.t1_cache.specs.EditKeys.{key_of}
 use Rattle.t1_cache.proofs.Rooming.{wanted-more}
 use Rattle.t1_cache.proofs.room.count_joins.Goals as goal
 
@@ -14,4 +15,4 @@ loop-named-preserved c = λ k.
     ∙ sym (wanted-more c.args.joins.now c.loop-named.named-index item k c.loop-named-test.true c.loop-named-item.is)
 
 pub returns : goal.returns
-returns c = λ k. c.loop-named.invariant k ∙ ap (λ l. wanted l k) (take_all c.loop-named.named-index c.args.joins.now (omega arith))
+returns c = λ k. c.loop-named.invariant k ∙ ap (λ l. pairs_of_key l k) (take_all c.loop-named.named-index c.args.joins.now (omega arith))

@@ -3,7 +3,8 @@ use Rattle.std.proofs.lemmas.List.{take_all}
 use Rattle.t1_run.specs.Run.{Key, key_eq}
 use Rattle.t1_cache.specs.declared.records.Named.{Named}
 use Rattle.t1_cache.specs.Room.{MayJoin}
-use Rattle.t1_cache.specs.Users.{key_of, users_at, wanted}
+use Rattle.t1_cache.specs.Users.{users_at, pairs_of_key}
+use Rattle.t1_cache.specs.EditKeys.{key_of}
 use Rattle.t1_cache.proofs.Rooming.{room-more, roomier-twice, wanted-more}
 use Rattle.t1_cache.proofs.room.make_room.Goals as goal
 
@@ -22,12 +23,12 @@ loop-named-preserved c =
       counts = λ k. reported.counts k ∙ ap (λ n. cond (key_eq k key) (n + 1) n) (was.counts k) ∙ sym (more k);
       room = λ k.
           subst (λ n. MayJoin n (new k)) (sym (more k))
-          (room-more old new key (wanted (take i joins)) reported.sets (subst (λ n. MayJoin (n + 1) (new key)) (was.counts key) reported.room) was.room k);
+          (room-more old new key (pairs_of_key (take i joins)) reported.sets (subst (λ n. MayJoin (n + 1) (new key)) (was.counts key) reported.room) was.room k);
       sets = λ k. roomier-twice (users_at c.args.records.now k) (old k) (new k) (was.sets k) (reported.sets k);
       rest = reported.rest ∙ was.rest;
     }
 
 pub returns-clause-room : goal.returns-clause-room
 returns-clause-room c = λ k.
-    subst (λ l. MayJoin (wanted l k) (users_at c.loop-named.records k))
+    subst (λ l. MayJoin (pairs_of_key l k) (users_at c.loop-named.records k))
     (take_all c.loop-named.named-index c.args.joins.now (omega arith)) (c.loop-named.invariant.room k)

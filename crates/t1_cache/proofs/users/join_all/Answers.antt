@@ -1,7 +1,8 @@
 use Rattle.std.proofs.Common.{Vec, Global, ℕ, ◌≡◌, ◌+◌, cond, ap, sym, subst, ◌∙◌, arith}
 use Rattle.std.specs.Prelude.{◌||◌}
 use Rattle.t1_cache.specs.declared.records.Named.{Named}
-use Rattle.t1_cache.specs.Users.{has_pair, key_of, lists, users_at, wanted, HasUserRoom}
+use Rattle.t1_cache.specs.Users.{has_pair, lists, users_at, pairs_of_key, HasUserRoom}
+use Rattle.t1_cache.specs.EditKeys.{key_of}
 use Rattle.t1_font.proofs.Keys.{key-itself}
 use Rattle.t1_cache.proofs.Adding.{less-room, wanted-last, joined-last}
 use Rattle.t1_cache.proofs.users.join_all.Goals as goal
@@ -11,10 +12,10 @@ join-requires c =
     let rest = c.pop.new.self.items in
     let p : Named × Vec ℕ Global = (c.in-Some.named, c.in-Some.name) in
     let key = key_of c.in-Some.named in
-    let all : wanted c.loop-named.left.items key ≡ wanted rest key + 1 =
-    ap (λ l. wanted l key) c.in-Some.ensures.items ∙ wanted-last rest p key
-    ∙ ap (λ b. cond b (wanted rest key + 1) (wanted rest key)) (key-itself key) in
-    less-room 1 (wanted c.loop-named.left.items key) (users_at c.loop-named.records key) (omega (arith, all)) (c.loop-named.invariant.room key)
+    let all : pairs_of_key c.loop-named.left.items key ≡ pairs_of_key rest key + 1 =
+    ap (λ l. pairs_of_key l key) c.in-Some.ensures.items ∙ wanted-last rest p key
+    ∙ ap (λ b. cond b (pairs_of_key rest key + 1) (pairs_of_key rest key)) (key-itself key) in
+    less-room 1 (pairs_of_key c.loop-named.left.items key) (users_at c.loop-named.records key) (omega (arith, all)) (c.loop-named.invariant.room key)
 
 pub loop-named-preserved : goal.loop-named-preserved
 loop-named-preserved c =
@@ -25,8 +26,8 @@ loop-named-preserved c =
     let had = lists c.loop-named.records in
     record {
       room = λ k.
-          reported.room k (wanted rest k)
-          (subst (λ n. HasUserRoom n (users_at c.loop-named.records k)) (ap (λ l. wanted l k) c.in-Some.ensures.items ∙ wanted-last rest p k) (was.room k));
+          reported.room k (pairs_of_key rest k)
+          (subst (λ n. HasUserRoom n (users_at c.loop-named.records k)) (ap (λ l. pairs_of_key l k) c.in-Some.ensures.items ∙ wanted-last rest p k) (was.room k));
       users = λ k u.
           ap (λ b. b || has_pair rest k u) (reported.users k u)
           ∙ joined-last rest p k u (had k u)

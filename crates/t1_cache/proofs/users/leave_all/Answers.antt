@@ -3,7 +3,8 @@ use Rattle.std.specs.Prelude.{◌&&◌}
 use Rattle.std.specs.Str.{bytes_eq}
 use Rattle.t1_cache.specs.declared.records.Named.{Named}
 use Rattle.t1_run.specs.Run.{key_eq}
-use Rattle.t1_cache.specs.Users.{has_pair, key_of, lists}
+use Rattle.t1_cache.specs.Users.{has_pair, lists}
+use Rattle.t1_cache.specs.EditKeys.{key_of}
 use Rattle.t1_cache.proofs.Adding.{left-last}
 use Rattle.t1_cache.proofs.users.leave_all.Goals as goal
 

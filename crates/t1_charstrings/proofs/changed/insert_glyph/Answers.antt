@@ -3,7 +3,7 @@ use Rattle.std.specs.Str.{bytes_eq}
 use Rattle.t1_run.specs.Run.{Glyph, key_eq}
 use Rattle.t1_charstrings.specs.declared.entries.Charstrings.{Charstrings}
 use Rattle.t1_charstrings.specs.Entries.{glyph_charstring}
-use Rattle.t1_charstrings.specs.Kept.{kept_at}
+use Rattle.t1_charstrings.specs.Kept.{charstring_at}
 use Rattle.t1_font.proofs.Keys.{at-key}
 use Rattle.t1_font.proofs.Lookups.{bytes_tell, inserted-at}
 use Rattle.t1_charstrings.proofs.changed.insert_glyph.Goals as goal
@@ -12,7 +12,7 @@ pub returns-clause-sets : goal.returns-clause-sets
 returns-clause-sets c =
     let old : Charstrings = c.args.charstrings.now in
     let new : Charstrings = record c.args.charstrings.now { glyphs = c.insert.new.self } in
-    at-key (λ k. kept_at new k ≡ cond (key_eq k (Glyph c.args.name.items)) (Some c.args.entry) (kept_at old k))
+    at-key (λ k. charstring_at new k ≡ cond (key_eq k (Glyph c.args.name.items)) (Some c.args.entry) (charstring_at old k))
     (λ n. refl)
     (λ g.
     ap (λ es. glyph_charstring es g) c.in_ok-insert.ensures.entries

@@ -1,5 +1,5 @@
 use Rattle.std.proofs.Common.{◌≡◌, ◌<◌, ◌+◌, ◌^◌, ◌-◌, min, length}
-use Rattle.t1_charstrings.specs.Lines.{kept_text}
+use Rattle.t1_charstrings.specs.Lines.{kept_lines_text}
 use Rattle.t1_charstrings.proofs.lengths.items_len.Given as goal
 
 -- the lines of the items so far, and those of the rest
@@ -7,4 +7,4 @@ abbrev pub invariant-loop-item : goal.invariant-loop-item
 invariant-loop-item l =
     (goal.iterator-loop-item).can_next l.item-iterator × (goal.iterator-loop-item).is_finite l.item-iterator
     × (l.total < 2 ^ 64)
-    × (min (l.total + length (kept_text l.charstrings l.operator l.item-iterator)) (2 ^ 64 - 1) ≡ min (length (kept_text l.charstrings l.operator l.items)) (2 ^ 64 - 1))
+    × (min (l.total + length (kept_lines_text l.charstrings l.operator l.item-iterator)) (2 ^ 64 - 1) ≡ min (length (kept_lines_text l.charstrings l.operator l.items)) (2 ^ 64 - 1))

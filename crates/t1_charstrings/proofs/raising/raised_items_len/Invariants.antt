@@ -1,6 +1,6 @@
 use Rattle.std.proofs.Common.{◌≡◌, ◌<◌, ◌+◌, ◌^◌, ◌-◌, min, length, map}
 use Rattle.t1_parts.specs.Counts.{raised_item}
-use Rattle.t1_charstrings.specs.Lines.{kept_text}
+use Rattle.t1_charstrings.specs.Lines.{kept_lines_text}
 use Rattle.t1_charstrings.proofs.raising.raised_items_len.Given as goal
 
 -- the lines of the items so far, and those of the rest
@@ -8,5 +8,5 @@ abbrev pub invariant-loop-item : goal.invariant-loop-item
 invariant-loop-item l =
     (goal.iterator-loop-item).can_next l.item-iterator × (goal.iterator-loop-item).is_finite l.item-iterator
     × (l.total < 2 ^ 64)
-    × (min (l.total + length (kept_text l.charstrings l.operator (map (raised_item l.needed.subrs l.needed.glyphs) l.item-iterator))) (2 ^ 64 - 1)
-    ≡ min (length (kept_text l.charstrings l.operator (map (raised_item l.needed.subrs l.needed.glyphs) l.items))) (2 ^ 64 - 1))
+    × (min (l.total + length (kept_lines_text l.charstrings l.operator (map (raised_item l.needed.subrs l.needed.glyphs) l.item-iterator))) (2 ^ 64 - 1)
+    ≡ min (length (kept_lines_text l.charstrings l.operator (map (raised_item l.needed.subrs l.needed.glyphs) l.items))) (2 ^ 64 - 1))

@@ -2,7 +2,8 @@ use Rattle.std.proofs.Common.{◌≡◌, ◌∙◌, ◌+◌, ◌++◌, map, Some
 use Rattle.t1_text.specs.Lines.{lines}
 use Rattle.t1_parts.specs.Entries.{opened_body}
 use Rattle.t1_parts.specs.ItemRefs.{item_of}
-use Rattle.t1_faults.specs.Entries.{entry_of, entries_from, place_in}
+use Rattle.t1_faults.specs.Entries.{entries_from, place_in}
+use Rattle.t1_faults.specs.CodeForms.{entry_in_text}
 use Rattle.t1_faults.proofs.LoopLaws.{entry_on, opened_none, opened_rest, opened_size}
 use Rattle.t1_faults.proofs.PlacedLaws.{map_append}
 use Rattle.t1_faults.proofs.entry.push_entry.Goals as goal
@@ -17,8 +18,8 @@ returns-in-Some-2-clause-entries c = λ items.
     let size = opened_size c.in_ok-body.field-0 (opened_body l ls) c.in-Some-2.body c.in-Some-2.after value found in
     let rest = opened_rest c.in_ok-body.field-0 c.in-Some-2.body c.in-Some-2.after c.args.bytes.now l ls found (c.in_ok-body.ensures.after ls c.first_line.ensures.lines) c.first_line.ensures.lines in
     entry_on c.args.number (lines c.args.bytes.now) l ls (lines c.in-Some-2.after.now) (item_of c.args.item.now) items c.in-Some.place c.in-Some-2.body.more
-    (map entry_of c.args.entries.now.items) (map entry_of c.push.new.self.items) c.first_line.ensures.lines here size rest
-    (ap (map entry_of) c.in_ok-push.ensures.items ∙ map_append entry_of c.args.entries.now.items _)
+    (map entry_in_text c.args.entries.now.items) (map entry_in_text c.push.new.self.items) c.first_line.ensures.lines here size rest
+    (ap (map entry_in_text) c.in_ok-push.ensures.items ∙ map_append entry_in_text c.args.entries.now.items _)
 
 pub returns-in-None-clause-entries : goal.returns-in-None-clause-entries
 returns-in-None-clause-entries c = λ items.
@@ -28,7 +29,7 @@ returns-in-None-clause-entries c = λ items.
     let value = c.in_ok-body.ensures.value ls c.first_line.ensures.lines in
     let size = opened_none c.in_ok-body.field-0 (opened_body l ls) value c.in-None.is in
     let zero_more : c.args.number + 1 ≡ c.args.number + 1 + 0 = omega arith in
-    ap (λ k. map entry_of c.push.new.self.items ++ entries_from k ls items) zero_more
+    ap (λ k. map entry_in_text c.push.new.self.items ++ entries_from k ls items) zero_more
     ∙ entry_on c.args.number (lines c.args.bytes.now) l ls ls (item_of c.args.item.now) items c.in-Some.place 0
-    (map entry_of c.args.entries.now.items) (map entry_of c.push.new.self.items) c.first_line.ensures.lines here size refl
-    (ap (map entry_of) c.in_ok-push.ensures.items ∙ map_append entry_of c.args.entries.now.items _)
+    (map entry_in_text c.args.entries.now.items) (map entry_in_text c.push.new.self.items) c.first_line.ensures.lines here size refl
+    (ap (map entry_in_text) c.in_ok-push.ensures.items ∙ map_append entry_in_text c.args.entries.now.items _)

@@ -5,7 +5,7 @@ use Rattle.t1_font.specs.Glyphs.{glyph_names}
 use Rattle.t1_font.specs.Runs.{drawing_in}
 use Rattle.t1_font.specs.ToRun.{font_to_run}
 use Rattle.t1_faults.specs.Composites.{with_composites}
-use Rattle.t1_faults.specs.Entries.{entry_of}
+use Rattle.t1_faults.specs.CodeForms.{entry_in_text}
 use Rattle.t1_faults.specs.Failing.{failures_in}
 use Rattle.t1_faults.specs.GlyphRuns.{failures_of}
 use Rattle.t1_faults.specs.Judging.{faults_by}
@@ -15,7 +15,7 @@ use Rattle.t1_faults.proofs.judging.faults_among.Goals as goal
 pub returns : goal.returns
 returns c =
     let s = c.args.source.now in
-    let es = map entry_of c.args.entries.now in
+    let es = map entry_in_text c.args.entries.now in
     let runs = c.in_ok-runs.runs in
     let run = own (font_to_run s.items) in
     let same : drawing_in runs.runs ≡ run = c.in_ok-runs.ensures.runs ∙ ap (λ is. own (font_to_run is)) c.items.ensures in

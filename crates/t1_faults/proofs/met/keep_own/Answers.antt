@@ -3,7 +3,7 @@ use Rattle.std.specs.Option.{option_or}
 use Rattle.std.specs.Str.{bytes_eq}
 use Rattle.indexmap.proofs.CallerLemmas.{insert_entry-new}
 use Rattle.t1_font.proofs.Compiling.{lookup-last, none-there}
-use Rattle.t1_chain.specs.Machine.{seen}
+use Rattle.t1_chain.specs.Machine.{failure_seen}
 use Rattle.t1_faults.specs.GlyphRuns.{own_kept}
 use Rattle.t1_faults.specs.Met.{run_fault}
 use Rattle.t1_faults.proofs.met.keep_own.Goals as goal
@@ -19,4 +19,4 @@ returns c = λ g.
     ∙ lookup-last (λ k. bytes_eq g k.items) old.entries key fault
     ∙ ap (λ bytes. option_or (own_kept old.entries g) (cond (bytes_eq g bytes) (Some fault) None)) c.in_ok-from_slice.ensures.items
     ∙ ap (λ f. option_or (own_kept old.entries g) (cond (bytes_eq g name) (Some f) None))
-    (c.in_ok-fault.ensures ∙ ap (λ chains. run_fault chains (seen c.args.failure.now)) c.new.ensures)
+    (c.in_ok-fault.ensures ∙ ap (λ chains. run_fault chains (failure_seen c.args.failure.now)) c.new.ensures)

@@ -2,7 +2,7 @@ use Rattle.std.proofs.Common.{◌∙◌, ap, sym, cond, None, Some}
 use Rattle.std.specs.Option.{option_or}
 use Rattle.std.specs.Str.{bytes_eq}
 use Rattle.indexmap.proofs.CallerLemmas.{insert_entry-new}
-use Rattle.t1_font.specs.Bodies.{glyph_body_kept}
+use Rattle.t1_font.specs.KeptBodies.{glyph_body_kept}
 use Rattle.t1_font.proofs.Compiling.{lookup-last, none-there}
 use Rattle.t1_faults.proofs.to_run.add_glyph.Goals as goal
 

@@ -1,6 +1,7 @@
 use Rattle.std.proofs.Common.{◌≡◌, ℕ, List}
 use Rattle.std.specs.Option.{option_or}
-use Rattle.t1_font.specs.Bodies.{glyph_body_kept, subr_among, subr_body_kept}
+use Rattle.t1_font.specs.Bodies.{subr_among}
+use Rattle.t1_font.specs.KeptBodies.{glyph_body_kept, subr_body_kept}
 use Rattle.t1_font.specs.ToRun.{glyph_to_run}
 use Rattle.t1_faults.proofs.to_run.add_items.Given as goal
 

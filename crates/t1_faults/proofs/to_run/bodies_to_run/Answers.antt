@@ -1,4 +1,5 @@
-use Rattle.t1_font.specs.Bodies.{glyph_body_kept, subr_among, subr_body_kept}
+use Rattle.t1_font.specs.Bodies.{subr_among}
+use Rattle.t1_font.specs.KeptBodies.{glyph_body_kept, subr_body_kept}
 use Rattle.t1_font.specs.ToRun.{glyph_to_run}
 use Rattle.t1_faults.proofs.ToRunLaws.{same_fonts}
 use Rattle.t1_faults.proofs.to_run.bodies_to_run.Goals as goal

@@ -1,4 +1,4 @@
-use Rattle.t1_font.specs.Bodies.{plain_bodies}
+use Rattle.t1_font.specs.KeptBodies.{plain_bodies}
 use Rattle.t1_faults.specs.GlyphRuns.{has_number}
 use Rattle.t1_faults.proofs.FailureLaws.{failures_same}
 use Rattle.t1_faults.proofs.to_run.glyph_runs.Goals as goal

@@ -1,6 +1,6 @@
 use Rattle.std.proofs.Common.{ap, map, ◌∙◌}
 use Rattle.t1_run.specs.Run.{FontBodies}
-use Rattle.t1_font.specs.Bodies.{glyph_body_kept, subr_body_kept}
+use Rattle.t1_font.specs.KeptBodies.{glyph_body_kept, subr_body_kept}
 use Rattle.t1_faults.proofs.ToRunLaws.{kept_own, names_there}
 use Rattle.t1_faults.proofs.to_run.own_runs.Goals as goal
 

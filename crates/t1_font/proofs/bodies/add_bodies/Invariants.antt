@@ -1,6 +1,7 @@
 use Rattle.std.proofs.Common.{◌≡◌, ℕ, List}
 use Rattle.std.specs.Option.{option_or}
-use Rattle.t1_font.specs.Bodies.{bodies_check, subr_body_kept, subr_among, glyph_body_kept, glyph_among}
+use Rattle.t1_font.specs.Bodies.{bodies_check, subr_among, glyph_among}
+use Rattle.t1_font.specs.KeptBodies.{subr_body_kept, glyph_body_kept}
 use Rattle.t1_font.proofs.bodies.add_bodies.Given as goal
 
 -- what was added, and the bodies of the items that are left

@@ -1,5 +1,5 @@
 use Rattle.std.proofs.Common.{refl}
-use Rattle.t1_font.specs.Bodies.{glyph_body_kept, subr_body_kept}
+use Rattle.t1_font.specs.KeptBodies.{glyph_body_kept, subr_body_kept}
 use Rattle.t1_font.proofs.Compiling.{on_ok, or-none}
 use Rattle.t1_font.proofs.bodies.add_body.Goals as goal
 

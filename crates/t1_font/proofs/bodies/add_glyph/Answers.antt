@@ -4,7 +4,7 @@ use Rattle.std.specs.Str.{bytes_eq}
 use Rattle.t1_frac.specs.declared.fault.Place.TheVariants.{Glyph}
 use Rattle.t1_code.specs.Words.{commands}
 use Rattle.indexmap.proofs.CallerLemmas.{insert_entry-new}
-use Rattle.t1_font.specs.Bodies.{glyph_body_kept}
+use Rattle.t1_font.specs.KeptBodies.{glyph_body_kept}
 use Rattle.t1_font.proofs.Compiling.{lookup-last, none-there, reported-ok}
 use Rattle.t1_font.proofs.bodies.add_glyph.Goals as goal
 

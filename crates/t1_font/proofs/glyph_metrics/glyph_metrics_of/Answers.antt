@@ -2,7 +2,7 @@ use Rattle.std.proofs.Common.{◌∙◌, ◌+◌, ap, sym, subst, map, drop, get
 use Rattle.std.specs.Borrow.{Bor}
 use Rattle.std.proofs.lemmas.Result.{err_from_is_err_and}
 use Rattle.t1_frac.specs.Outcome.{Refuses}
-use Rattle.t1_font.specs.MeasuredGlyphs.{glyph_metrics_among}
+use Rattle.t1_font.specs.MetricsByRuns.{glyph_metrics_among}
 use Rattle.t1_font.proofs.Gathering.{put_after, one-reported, one-refused}
 use Rattle.t1_font.proofs.Keeping.{name-first}
 use Rattle.t1_font.proofs.glyph_metrics.glyph_metrics_of.Goals as goal

@@ -1,5 +1,5 @@
 use Rattle.std.proofs.Common.{◌≡◌, map, drop}
-use Rattle.t1_font.specs.MeasuredGlyphs.{glyph_metrics_among}
+use Rattle.t1_font.specs.MetricsByRuns.{glyph_metrics_among}
 use Rattle.t1_font.proofs.Gathering.{put_after}
 use Rattle.t1_font.proofs.glyph_metrics.glyph_metrics_of.Given as goal
 

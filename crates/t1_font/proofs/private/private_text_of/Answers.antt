@@ -1,6 +1,7 @@
 use Rattle.std.proofs.Common.{ap, sym, ◌∙◌}
 use Rattle.t1_parts.specs.ItemRefs.{item_of}
-use Rattle.t1_font.specs.Assembly.{put_after, private_text}
+use Rattle.t1_font.specs.Assembly.{private_text}
+use Rattle.t1_font.specs.Lengths.{put_after}
 use Rattle.t1_font.proofs.PrivateLaws.{next_item}
 use Rattle.t1_font.proofs.private.private_text_of.Goals as goal
 

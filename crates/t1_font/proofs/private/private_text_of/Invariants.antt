@@ -1,5 +1,6 @@
 use Rattle.std.proofs.Common.{◌≡◌}
-use Rattle.t1_font.specs.Assembly.{put_after, private_text}
+use Rattle.t1_font.specs.Assembly.{private_text}
+use Rattle.t1_font.specs.Lengths.{put_after}
 use Rattle.t1_font.proofs.private.private_text_of.Given as goal
 
 -- the text so far stands in front of that of the items that are left

@@ -1,7 +1,8 @@
 use Rattle.std.proofs.Common.{ap, sym, ◌∙◌, ◌++◌, ◌∷◌, codes, decimal}
 use Rattle.t1_frac.specs.declared.fault.Place.TheVariants as places
 use Rattle.t1_parts.specs.declared.item.Item.TheVariants as items
-use Rattle.t1_font.specs.Assembly.{put_after, item_line}
+use Rattle.t1_font.specs.Assembly.{item_line}
+use Rattle.t1_font.specs.Lengths.{put_after}
 use Rattle.t1_font.proofs.PrivateLaws.{entry_after}
 use Rattle.t1_font.proofs.private.push_item.Goals as goal
 

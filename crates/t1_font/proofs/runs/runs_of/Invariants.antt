@@ -1,6 +1,7 @@
 use Rattle.std.proofs.Common.{◌≡◌, ℕ, List, map, drop}
 use Rattle.t1_run.specs.Run.{font}
-use Rattle.t1_font.specs.Runs.{counted, run_kept, AreTraced, IsNumberedAfter}
+use Rattle.t1_font.specs.Runs.{run_kept, AreTraced, IsNumberedAfter}
+use Rattle.t1_font.specs.RunCounts.{counted}
 use Rattle.t1_font.proofs.Keeping.{RunsInFront}
 use Rattle.t1_font.proofs.runs.runs_of.Given as goal
 

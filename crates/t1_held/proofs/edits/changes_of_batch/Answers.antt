@@ -1,7 +1,8 @@
 use Rattle.std.proofs.Common.{map}
 use Rattle.t1_frac.specs.Outcome.{Refuses}
 use Rattle.t1_font.specs.Assembly.{file_check}
-use Rattle.t1_held.specs.Batch.{entry_edit, keys, AreBatchChanges}
+use Rattle.t1_held.specs.Batch.{entry_edit, keys}
+use Rattle.t1_held.specs.Drafting.{AreBatchChanges}
 use Rattle.t1_held.specs.Edits.{AreChanges}
 use Rattle.t1_held.proofs.CommitLaws.{batch_changes_are, mapped}
 use Rattle.t1_held.proofs.HeldLaws.{held_well}

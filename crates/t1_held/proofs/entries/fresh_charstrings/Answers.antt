@@ -1,7 +1,7 @@
 use Rattle.std.proofs.Common.{◌∙◌, ap, sym, arith}
 use Rattle.std.proofs.lemmas.List.{drop_all}
 use Rattle.std.specs.Option.{option_or}
-use Rattle.t1_charstrings.specs.Kept.{kept_at}
+use Rattle.t1_charstrings.specs.Kept.{charstring_at}
 use Rattle.t1_font.proofs.Compiling.{or-none}
 use Rattle.t1_held.specs.Entries.{fresh_in}
 use Rattle.t1_held.proofs.CommitLaws.{fresh-more}
@@ -20,4 +20,4 @@ pub returns : goal.returns
 returns c = λ k.
     let changes = c.args.changes.now in
     let none = drop_all c.loop-change.change-index changes (omega arith) in
-    sym (ap (λ l. option_or (fresh_in c.args.lead l k) (kept_at c.loop-change.fresh k)) none) ∙ c.loop-change.invariant k
+    sym (ap (λ l. option_or (fresh_in c.args.lead l k) (charstring_at c.loop-change.fresh k)) none) ∙ c.loop-change.invariant k

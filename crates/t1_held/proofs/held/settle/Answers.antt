@@ -1,5 +1,5 @@
 use Rattle.std.proofs.Common.{map}
-use Rattle.t1_cache.specs.Renewed.{kept_of}
+use Rattle.t1_cache.specs.Recorded.{kept_of}
 use Rattle.t1_rerun.specs.Settled.{changed_keys}
 use Rattle.t1_held.proofs.CommitLaws.{run-where-stale}
 use Rattle.t1_held.proofs.held.settle.Goals as goal

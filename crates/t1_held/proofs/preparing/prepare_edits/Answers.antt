@@ -4,7 +4,8 @@ use Rattle.t1_frac.specs.Outcome.{Refuses}
 use Rattle.t1_parts.specs.LenIV.{lead}
 use Rattle.t1_font.specs.Assembly.{file_check}
 use Rattle.t1_font.specs.Glyphs.{glyph_names}
-use Rattle.t1_font.specs.Runs.{counted, Counts}
+use Rattle.t1_font.specs.Runs.{Counts}
+use Rattle.t1_font.specs.RunCounts.{counted}
 use Rattle.t1_cache.specs.Edited.{stale}
 use Rattle.t1_charstrings.specs.Made.{made_of as made_in}
 use Rattle.t1_charstrings.specs.Ready.{IsReadyLines}

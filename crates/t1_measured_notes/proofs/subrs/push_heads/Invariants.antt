@@ -1,5 +1,5 @@
 use Rattle.std.proofs.Common.{◌≡◌, ◌++◌, false, drop}
-use Rattle.t1_measured_notes.specs.MeasuredNotes.{has_number, unused_by_line}
+use Rattle.t1_measured_notes.specs.UnusedByLine.{has_number, unused_by_line}
 use Rattle.t1_measured_notes.proofs.subrs.push_heads.Given as goal
 
 -- the notes so far, and those of the lines that are left

@@ -1,6 +1,6 @@
 use Rattle.std.proofs.Common.{◌≡◌, bytes_eq, drop}
 use Rattle.std.specs.Map.{lookup}
-use Rattle.t1_notes.specs.CommandWords.{rows_of}
+use Rattle.t1_notes.specs.Tables.{rows_of}
 use Rattle.t1_notes.proofs.commands.find.Given as goal
 
 -- no row so far has the word

@@ -1,5 +1,5 @@
 use Rattle.std.proofs.Common.{◌++◌, ◌∙◌, ap, sym, append-nil, drop_of_length-le}
-use Rattle.t1_notes.specs.Notes.{strays_by_line}
+use Rattle.t1_notes.specs.StraysByLine.{strays_by_line}
 use Rattle.t1_notes.proofs.Telling.{strays_by}
 use Rattle.t1_notes.proofs.glyphs.push_strays.Goals as goal
 

@@ -1,5 +1,5 @@
 use Rattle.std.proofs.Common.{◌≡◌, ◌++◌, false, drop}
-use Rattle.t1_notes.specs.Notes.{strays_by_line}
+use Rattle.t1_notes.specs.StraysByLine.{strays_by_line}
 use Rattle.t1_notes.proofs.glyphs.push_strays.Given as goal
 
 -- the notes so far, and those of the lines that are left

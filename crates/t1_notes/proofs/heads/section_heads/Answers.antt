@@ -1,5 +1,5 @@
 use Rattle.std.proofs.Common.{◌++◌, ◌∙◌, ap, sym, append-nil, drop_of_length-le}
-use Rattle.t1_notes.specs.Heads.{heads_by_line}
+use Rattle.t1_notes.specs.HeadsByLine.{heads_by_line}
 use Rattle.t1_notes.proofs.Telling.{heads_by}
 use Rattle.t1_notes.proofs.heads.section_heads.Goals as goal
 

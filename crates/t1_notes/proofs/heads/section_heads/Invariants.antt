@@ -1,5 +1,5 @@
 use Rattle.std.proofs.Common.{◌≡◌, ◌++◌, false, drop}
-use Rattle.t1_notes.specs.Heads.{heads_by_line}
+use Rattle.t1_notes.specs.HeadsByLine.{heads_by_line}
 use Rattle.t1_notes.proofs.heads.section_heads.Given as goal
 
 -- the lines so far, and those that are found from here on

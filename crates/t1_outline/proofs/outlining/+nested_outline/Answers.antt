@@ -9,7 +9,8 @@ use Rattle.t1_run.specs.Composite.{outline_within}
 use Rattle.t1_run.specs.Run.{font, own}
 use Rattle.t1_run.proofs.Continuing.{lacking}
 use Rattle.t1_extent.proofs.Walking.{lonely, refuses-code}
-use Rattle.t1_font.specs.Runs.{counted, CountsSome}
+use Rattle.t1_font.specs.Runs.{CountsSome}
+use Rattle.t1_font.specs.RunCounts.{counted}
 use Rattle.t1_outline.specs.Counting.{runs_within}
 use Rattle.t1_outline.proofs.Counts.{none_of, all_of, all_counted, on_ok, parts_counted, base_counted, accent_counted}
 use Rattle.t1_outline.proofs.Nesting.{body_there, no_body, own_missing, run_drew, run_refused, missing, nested_too_deep, base_refused, accent_refused, joined_both, runs_lonely, runs_composed, run_once}

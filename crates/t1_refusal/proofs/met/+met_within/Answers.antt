@@ -1,7 +1,7 @@
 use Rattle.std.proofs.Common.{◌≡◌, option_map, subst}
 use Rattle.std.specs.Prelude.{IfOk}
 use Rattle.t1_run.specs.Run.{font}
-use Rattle.t1_refusal.specs.Met.{seen_of}
+use Rattle.t1_refusal.specs.Bodies.{seen_of}
 use Rattle.t1_refusal.proofs.MetLaws.{met_in_accent}
 use Rattle.t1_refusal.proofs.met.+met_within.Goals as goal
 

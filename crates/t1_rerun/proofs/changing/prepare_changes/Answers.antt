@@ -1,6 +1,7 @@
 use Rattle.std.proofs.Common.{◌≡◌, ap, length, subst}
 use Rattle.std.proofs.lemmas.Result.{err_from_is_err_and}
-use Rattle.t1_font.specs.Runs.{counted, Counts}
+use Rattle.t1_font.specs.Runs.{Counts}
+use Rattle.t1_font.specs.RunCounts.{counted}
 use Rattle.t1_cache.specs.Edited.{stale}
 use Rattle.t1_rerun.specs.Renewals.{IsRenewal}
 use Rattle.t1_rerun.specs.Settled.{changed_keys}

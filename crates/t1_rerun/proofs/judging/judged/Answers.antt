@@ -3,7 +3,7 @@ use Rattle.std.specs.Prelude.{Ok}
 use Rattle.std.specs.Option.{option_or}
 use Rattle.std.proofs.lemmas.Result.{err_from_is_err_and}
 use Rattle.t1_frac.specs.Outcome.{Refuses}
-use Rattle.t1_font.specs.MeasuredGlyphs.{glyph_metrics_among}
+use Rattle.t1_font.specs.MetricsByRuns.{glyph_metrics_among}
 use Rattle.t1_cache.specs.Renewed.{recorded_run}
 use Rattle.t1_cache.specs.Users.{has_name}
 use Rattle.t1_rerun.specs.Newest.{judged_in}

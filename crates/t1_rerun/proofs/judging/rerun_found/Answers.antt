@@ -2,12 +2,14 @@ use Rattle.std.proofs.Common.{◌≡◌, ◌∙◌, ap, filter, is_some, map, sy
 use Rattle.std.specs.Prelude.{◌&&◌}
 use Rattle.std.specs.Str.{bytes_eq}
 use Rattle.t1_run.specs.Touched.{is_user}
-use Rattle.t1_font.specs.Runs.{counted, drawing_in as run_of}
+use Rattle.t1_font.specs.Runs.{drawing_in as run_of}
+use Rattle.t1_font.specs.RunCounts.{counted}
 use Rattle.t1_cache.specs.Renewed.{recorded_run}
 use Rattle.std.proofs.lemmas.Result.{err_from_is_err_and}
 use Rattle.t1_run.specs.Run.{font}
 use Rattle.t1_font.specs.Bodies.{bodies}
-use Rattle.t1_cache.specs.Users.{has_name, key_of}
+use Rattle.t1_cache.specs.Users.{has_name}
+use Rattle.t1_cache.specs.EditKeys.{key_of}
 use Rattle.t1_cache.specs.Edited.{stale}
 use Rattle.std.specs.List.{AllByRecursion, list_any}
 use Rattle.t1_rerun.specs.Renewals.{HasRun, IsMeasuredRerun}

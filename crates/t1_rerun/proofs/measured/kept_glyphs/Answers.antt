@@ -2,7 +2,7 @@ use Rattle.std.proofs.Common.{◌∙◌, ◌+◌, ap, subst, sym}
 use Rattle.std.proofs.lemmas.Result.{err_from_is_err_and}
 use Rattle.t1_frac.specs.Outcome.{reported_at, Refuses}
 use Rattle.t1_frac.specs.declared.fault.Place.TheVariants.{Nowhere}
-use Rattle.t1_font.specs.MeasuredGlyphs.{glyph_metrics_by}
+use Rattle.t1_font.specs.MetricsByRuns.{glyph_metrics_by}
 use Rattle.t1_rerun.proofs.Reporting.{reporting-more, reporting-refused, IsReporting}
 use Rattle.t1_rerun.proofs.measured.kept_glyphs.Goals as goal
 

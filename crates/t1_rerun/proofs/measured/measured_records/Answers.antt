@@ -4,7 +4,7 @@ use Rattle.std.proofs.lemmas.Result.{err_from_is_err_and}
 use Rattle.t1_frac.specs.Outcome.{reported_at, ◌>>=◌, Refuses}
 use Rattle.t1_frac.specs.declared.fault.Place.TheVariants.{Nowhere}
 use Rattle.t1_font.proofs.Drawing.{refuses-then}
-use Rattle.t1_cache.specs.Renewed.{kept_of}
+use Rattle.t1_cache.specs.Recorded.{kept_of}
 use Rattle.t1_rerun.specs.Measured.{kept_metrics}
 use Rattle.t1_rerun.proofs.Reporting.{font_of, metrics-right}
 use Rattle.t1_rerun.proofs.measured.measured_records.Goals as goal

@@ -1,11 +1,11 @@
 use Rattle.std.proofs.Common.{◌≡◌, ◌∙◌, ℕ, List, [], false, ap, map}
 use Rattle.t1_run.specs.Footprint.{SameAt}
 use Rattle.t1_run.specs.Run.{Key, font}
-use Rattle.t1_font.specs.Bodies.{glyph_body_kept, subr_body_kept}
+use Rattle.t1_font.specs.KeptBodies.{glyph_body_kept, subr_body_kept}
 use Rattle.t1_font.proofs.Keys.{at-key}
 use Rattle.t1_cache.specs.declared.records.Records.{Records}
 use Rattle.t1_cache.specs.Bodies.{record_bodies, subr_body}
-use Rattle.t1_cache.specs.Renewed.{kept_of}
+use Rattle.t1_cache.specs.Recorded.{kept_of}
 use Rattle.t1_cache.specs.Users.{among, glyph_users, lists, subr_users}
 use Rattle.t1_rerun.proofs.opening.insert_entries.Goals as goal
 

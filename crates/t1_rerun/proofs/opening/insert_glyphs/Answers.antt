@@ -3,11 +3,12 @@ use Rattle.std.specs.Prelude.{◌++◌, ◌∷◌, []}
 use Rattle.std.proofs.lemmas.List.{take_all}
 use Rattle.std.specs.Str.{bytes_eq}
 use Rattle.t1_run.specs.Run.{Glyph, body_at}
-use Rattle.t1_font.specs.Bodies.{glyph_body_kept}
+use Rattle.t1_font.specs.KeptBodies.{glyph_body_kept}
 use Rattle.t1_font.specs.Runs.{run_kept}
 use Rattle.t1_cache.specs.Bodies.{record_bodies}
 use Rattle.t1_cache.specs.Changed.{SetsBody}
-use Rattle.t1_cache.specs.Renewed.{kept, kept_of}
+use Rattle.t1_cache.specs.Renewed.{kept}
+use Rattle.t1_cache.specs.Recorded.{kept_of}
 use Rattle.t1_rerun.specs.Renewals.{run_in}
 use Rattle.t1_rerun.proofs.Building.{all-built, body-there, glyph-apart, glyph-built, none-built, run-there}
 use Rattle.t1_rerun.proofs.opening.insert_glyphs.Goals as goal

@@ -1,9 +1,10 @@
 use Rattle.std.proofs.Common.{◌≡◌, ◌∙◌, ap, length, map, subst, sym}
 use Rattle.std.specs.List.{AllByRecursion}
 use Rattle.std.proofs.lemmas.Result.{err_from_is_err_and}
-use Rattle.t1_font.specs.Bodies.{plain_bodies}
-use Rattle.t1_font.specs.Runs.{counted, Counts}
-use Rattle.t1_cache.specs.Renewed.{kept_of}
+use Rattle.t1_font.specs.KeptBodies.{plain_bodies}
+use Rattle.t1_font.specs.Runs.{Counts}
+use Rattle.t1_font.specs.RunCounts.{counted}
+use Rattle.t1_cache.specs.Recorded.{kept_of}
 use Rattle.t1_font.proofs.Measuring.{names-there}
 use Rattle.t1_rerun.specs.Opened.{measured_names, opening_runs, AreMeasured, IsRecorded}
 use Rattle.t1_rerun.proofs.FirstRecords.{all-after, are-measured, are-right, counts-done, counts-some, first-fault, names-measured, no-fault, runs-are}

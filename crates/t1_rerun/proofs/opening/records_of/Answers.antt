@@ -1,9 +1,9 @@
 use Rattle.std.proofs.Common.{◌∙◌, ap, map, subst, sym}
 use Rattle.std.specs.List.{AllByRecursion}
-use Rattle.t1_font.specs.Bodies.{plain_bodies}
+use Rattle.t1_font.specs.KeptBodies.{plain_bodies}
 use Rattle.t1_cache.specs.Bodies.{record_bodies}
 use Rattle.t1_cache.specs.Room.{MayJoin}
-use Rattle.t1_cache.specs.Users.{users_at, wanted}
+use Rattle.t1_cache.specs.Users.{users_at, pairs_of_key}
 use Rattle.t1_cache.proofs.Changing.{rest_same}
 use Rattle.t1_rerun.specs.Opened.{IsRecorded}
 use Rattle.t1_rerun.proofs.Steps.{same-twice}
@@ -16,7 +16,7 @@ move_users-requires c =
     let made = c.in_ok-make_room.ensures in
     room-there (plain_bodies c.args.bodies) c.args.names.now c.args.runs c.args.metrics.now c.requires.measured c.requires.names c.in_ok-joins.joins.items c.in_ok-joins.ensures
     c.in_ok-records.records roomy c.in_ok-records.ensures.compiled made.rest
-    (λ k. subst (λ l. MayJoin (wanted l k) (users_at roomy k)) c.deref.ensures.value (made.room k))
+    (λ k. subst (λ l. MayJoin (pairs_of_key l k) (users_at roomy k)) c.deref.ensures.value (made.room k))
 
 pub returns-clause-compiled : goal.returns-clause-compiled
 returns-clause-compiled c =

@@ -1,6 +1,6 @@
 use Rattle.std.proofs.Common.{◌∙◌, None, ap, arith, cond, refl, subst, sym}
 use Rattle.t1_cache.specs.Room.{MayJoin}
-use Rattle.t1_cache.specs.Users.{users_at, wanted}
+use Rattle.t1_cache.specs.Users.{users_at, pairs_of_key}
 use Rattle.t1_rerun.specs.Steps.{new_run, some_inserts, AreStepsOf, AreTakenOut}
 use Rattle.t1_rerun.proofs.Preparing.{as-unchanged, users-same}
 use Rattle.t1_rerun.proofs.Steps.{as-rest}
@@ -44,8 +44,8 @@ returns-clause-ready c =
     let made = c.in_ok-steps.ensures in
     record {
       steps =
-          subst (λ l. AreStepsOf (new_run c.args.renewal.reruns.items) (wanted l) new changes steps) c.deref-2.ensures.value
-          (subst (λ run. AreStepsOf run (wanted c.deref-2.result.now) new changes steps) (λ j. λ g. c.in_ok-runs.ensures g j) made.steps);
+          subst (λ l. AreStepsOf (new_run c.args.renewal.reruns.items) (pairs_of_key l) new changes steps) c.deref-2.ensures.value
+          (subst (λ run. AreStepsOf run (pairs_of_key c.deref-2.result.now) new changes steps) (λ j. λ g. c.in_ok-runs.ensures g j) made.steps);
       runs = λ g. made.runs g ∙ ap (cond (some_inserts steps g) None) (c.in_ok-runs.ensures g);
       taken = subst (AreTakenOut c.in_ok-taken.taken.keys) c.deref-3.ensures.value c.in_ok-taken.ensures;
       leaves = refl;
@@ -53,6 +53,6 @@ returns-clause-ready c =
       subrs = omega (arith, made.count, c.len.ensures, c.in_ok-reserve_entries.ensures.subrs);
       glyphs = omega (arith, made.count, c.len.ensures, c.in_ok-reserve_entries.ensures.glyphs);
       users = λ k.
-          subst (λ s. MayJoin (wanted joins k) s) (sym (users-same mid new c.reserve_entries.ensures.same k))
-          (subst (λ l. MayJoin (wanted l k) (users_at mid k)) c.deref.ensures.value (c.in_ok-make_room.ensures.room k));
+          subst (λ s. MayJoin (pairs_of_key joins k) s) (sym (users-same mid new c.reserve_entries.ensures.same k))
+          (subst (λ l. MayJoin (pairs_of_key l k) (users_at mid k)) c.deref.ensures.value (c.in_ok-make_room.ensures.room k));
     }

@@ -1,6 +1,6 @@
 use Rattle.std.proofs.Common.{◌≡◌, subst, sym}
 use Rattle.std.specs.Prelude.{IfOk}
-use Rattle.t1_session.specs.Refusing.{fault_of_edited}
+use Rattle.t1_session.specs.KeptRefusals.{fault_of_edited}
 use Rattle.t1_session.proofs.refused.edited_fault.Goals as goal
 
 pub prepared_fault-fault-requires : goal.prepared_fault-fault-requires

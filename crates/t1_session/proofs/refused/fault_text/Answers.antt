@@ -1,6 +1,7 @@
 use Rattle.std.proofs.Common.{◌≡◌, ◌∙◌, subst, sym}
 use Rattle.std.specs.Prelude.{IfOk}
-use Rattle.t1_refusal.specs.Telling.{fault_lines, AreBodiesOf, HasFaultyBody}
+use Rattle.t1_refusal.specs.Telling.{refused_fault_lines}
+use Rattle.t1_refusal.specs.Bodies.{AreBodiesOf, HasFaultyBody}
 use Rattle.t1_rerun.specs.Changing.{edited_font}
 use Rattle.t1_session.proofs.EditedBodyLaws.{faulty_body, same_bodies}
 use Rattle.t1_session.proofs.refused.fault_text.Goals as goal
@@ -15,7 +16,7 @@ run_fault_text-requires c =
     )
 
 pub returns-in_ok-bodies-in-Ok : goal.returns-in_ok-bodies-in-Ok
-returns-in_ok-bodies-in-Ok c = subst (λ items. IfOk c.run_fault_text.result (λ text. text.items ≡ fault_lines items c.args.fault.now)) c.items.ensures c.run_fault_text.ensures
+returns-in_ok-bodies-in-Ok c = subst (λ items. IfOk c.run_fault_text.result (λ text. text.items ≡ refused_fault_lines items c.args.fault.now)) c.items.ensures c.run_fault_text.ensures
 
 pub body_fault_text-requires : goal.body_fault_text-requires
 body_fault_text-requires c =

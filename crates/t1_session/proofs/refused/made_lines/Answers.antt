@@ -1,7 +1,7 @@
 use Rattle.std.proofs.Common.{◌≡◌, ◌∙◌, ap, subst}
 use Rattle.std.specs.Prelude.{IfOk}
 use Rattle.t1_refusal.proofs.TellingLaws.{fault_told, nothing_told}
-use Rattle.t1_session.specs.Refusing.{fault_of_edited}
+use Rattle.t1_session.specs.KeptRefusals.{fault_of_edited}
 use Rattle.t1_session.proofs.refused.made_lines.Goals as goal
 
 pub returns-in_default-clause-shown : goal.returns-in_default-clause-shown

@@ -2,7 +2,8 @@ use Rattle.std.proofs.Common.{◌≡◌, true, false, [], subst, rules}
 use Rattle.t1_frac.specs.Words.{words}
 use Rattle.t1_commands.specs.Commands.{is_wordless, line_command, takes_body}
 use Rattle.t1_calls.specs.Framing.{framed, is_call}
-use Rattle.t1_calls.specs.Talking.{Brings, Spoken, Step}
+use Rattle.t1_calls.specs.Talking.{Brings, Spoken}
+use Rattle.t1_calls.specs.Performing.{IsAnswerTo}
 use Rattle.t1_calls.proofs.PerformingLaws.{spoken, unspoken}
 use Rattle.t1_calls.proofs.talk.Talk.perform.Goals as goal
 
@@ -25,5 +26,5 @@ returns c =
     let step = c.answer_to.ensures (line_command (words line)) c.line_command-made.ensures in (
       call,
       spoken c.args.self.now.state c.answer_to.new.session.state line body c.answer_to.result takes call some
-          (subst (λ (s : Spoken). Step s.state c.answer_to.new.session.state (line_command (words line)) c.answer_to.result) c.self.view_is step),
+          (subst (λ (s : Spoken). IsAnswerTo s.state c.answer_to.new.session.state (line_command (words line)) c.answer_to.result) c.self.view_is step),
     )

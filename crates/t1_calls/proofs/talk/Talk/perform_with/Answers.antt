@@ -1,8 +1,10 @@
 use Rattle.std.proofs.Common.{◌∙◌, ℕ, List, subst}
 use Rattle.t1_frac.specs.Words.{words}
 use Rattle.t1_text.specs.Lines.{joined, lines}
-use Rattle.t1_commands.specs.Commands.{Makes, body_command}
-use Rattle.t1_calls.specs.Talking.{Spoken, Step}
+use Rattle.t1_commands.specs.Commands.{body_command}
+use Rattle.t1_commands.specs.MadeCommands.{Makes}
+use Rattle.t1_calls.specs.Talking.{Spoken}
+use Rattle.t1_calls.specs.Performing.{IsAnswerTo}
 use Rattle.t1_calls.proofs.PerformingLaws.{spoken_with}
 use Rattle.t1_calls.proofs.talk.Talk.perform_with.Goals as goal
 
@@ -13,5 +15,5 @@ returns c =
     let step = c.answer_to.ensures (body_command (words line) (joined (lines body))) made in (
       c.requires.call,
       spoken_with c.args.self.now.state c.answer_to.new.session.state line body c.answer_to.result c.requires.takes c.requires.call
-          (subst (λ (s : Spoken). Step s.state c.answer_to.new.session.state (body_command (words line) (joined (lines body))) c.answer_to.result) c.self.view_is step),
+          (subst (λ (s : Spoken). IsAnswerTo s.state c.answer_to.new.session.state (body_command (words line) (joined (lines body))) c.answer_to.result) c.self.view_is step),
     )

@@ -1,7 +1,7 @@
 use Rattle.std.proofs.Common.{◌≡◌, cond, refl, None}
 use Rattle.t1_run.specs.Run.{Glyph, key_eq}
 use Rattle.t1_charstrings.specs.declared.entries.Charstrings.{Charstrings}
-use Rattle.t1_charstrings.specs.Kept.{kept_at}
+use Rattle.t1_charstrings.specs.Kept.{charstring_at}
 use Rattle.t1_charstrings.proofs.Batches.{taken-at}
 use Rattle.t1_font.proofs.Keys.{at-key}
 use Rattle.t1_charstrings.proofs.batch.settling.take_one_out.Goals as goal
@@ -12,6 +12,6 @@ returns-in-Glyph-clause-sets c =
     let new : Charstrings = record old { glyphs = c.swap_remove-in-Glyph.new.self } in
     let name = c.in-Glyph.name.items in
     rw c.in-Glyph.is
-    (at-key (λ k. kept_at new k ≡ cond (key_eq k (Glyph name)) None (kept_at old k))
+    (at-key (λ k. charstring_at new k ≡ cond (key_eq k (Glyph name)) None (charstring_at old k))
     (λ n. refl)
     (taken-at (λ k. k.items) old.glyphs.entries new.glyphs.entries c.as_slice.result.now name c.as_slice.ensures.value c.swap_remove-in-Glyph.ensures.updates.0))

@@ -2,7 +2,8 @@ use Rattle.std.proofs.Common.{◌≡◌, ◌∙◌, append-nil, ap, refl, sym, s
 use Rattle.t1_font.specs.InTurn.{AreRows, RunsAs, staying}
 use Rattle.t1_font.specs.Runs.{drawing_in}
 use Rattle.t1_run.specs.Run.{font}
-use Rattle.t1_font.specs.ToRun.{glyph_to_run, subr_stored}
+use Rattle.t1_font.specs.ToRun.{glyph_to_run}
+use Rattle.t1_font.specs.StoredSubrs.{subr_stored}
 use Rattle.t1_font.proofs.Compiling.{on_ok, or-none}
 use Rattle.t1_font.proofs.InTurnLaws.{rows-more, runs-more}
 use Rattle.t1_font.proofs.turns.Turns.take.Goals as goal

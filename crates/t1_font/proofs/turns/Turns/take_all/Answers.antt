@@ -9,9 +9,10 @@ use Rattle.t1_parts.specs.Items.{stands_alone}
 use Rattle.t1_run.specs.Run.{own}
 use Rattle.t1_font.specs.Bodies.{bodies_check, body_check, subr_in, subr_among}
 use Rattle.t1_font.specs.Glyphs.{glyph_names, name_in}
-use Rattle.t1_font.specs.InTurn.{AreRows, IsFirstOfName}
+use Rattle.t1_font.specs.InTurn.{AreRows, IsFirstOfName, SubrsStandFirst}
 use Rattle.t1_font.specs.Runs.{drawing_in}
-use Rattle.t1_font.specs.ToRun.{font_to_run, subr_stored, SubrsStandFirst}
+use Rattle.t1_font.specs.ToRun.{font_to_run}
+use Rattle.t1_font.specs.StoredSubrs.{subr_stored}
 use Rattle.t1_font.proofs.AloneLaws.{checks_alone, first_alone, names_alone, subrs_alone}
 use Rattle.t1_font.proofs.Compiling.{or-assoc}
 use Rattle.t1_font.proofs.InTurnLaws.{names-known, refused-first, runs-as}

@@ -4,9 +4,10 @@ use Rattle.std.specs.Option.{option_or}
 use Rattle.t1_run.specs.Run.{own}
 use Rattle.t1_font.specs.Bodies.{bodies_check, subr_among}
 use Rattle.t1_font.specs.Glyphs.{glyph_names}
-use Rattle.t1_font.specs.InTurn.{staying, AreRows, IsFirstOfName}
+use Rattle.t1_font.specs.InTurn.{staying, AreRows, IsFirstOfName, SubrsStandFirst}
 use Rattle.t1_font.specs.Runs.{drawing_in}
-use Rattle.t1_font.specs.ToRun.{font_to_run, subr_stored, SubrsStandFirst}
+use Rattle.t1_font.specs.ToRun.{font_to_run}
+use Rattle.t1_font.specs.StoredSubrs.{subr_stored}
 use Rattle.t1_font.proofs.turns.Turns.take_all.Given as goal
 
 -- what was reported of the items so far, and the bodies of those that are left

@@ -1,5 +1,5 @@
 use Rattle.std.proofs.Common.{◌∙◌, map}
-use Rattle.t1_cache.specs.Renewed.{kept_of}
+use Rattle.t1_cache.specs.Recorded.{kept_of}
 use Rattle.t1_rerun.proofs.Stepping.{kept-but-subr}
 use Rattle.t1_rerun.proofs.settling.steps.remove.Goals as goal
 

@@ -1,6 +1,6 @@
 use Rattle.std.proofs.Common.{◌≡◌, ◌∙◌, sym, ap, refl, List, [], ℕ, true, false, Some}
 use Rattle.t1_frac.specs.Words.{words}
-use Rattle.t1_commands.specs.Commands.{Opening, takes_body, is_wordless, line_command}
+use Rattle.t1_commands.specs.Commands.{OpenCommand, takes_body, is_wordless, line_command}
 use Rattle.t1_session.specs.Conversation.{Conversation}
 use Rattle.t1_session.specs.Dialogues.{conversation_of}
 use Rattle.t1_session.proofs.Flushing.{flushes-none}
@@ -15,7 +15,7 @@ returns-then-takes_body g c =
     let text : List ℕ = c.args.self.now.line.items in
     let opens : takes_body (words text) ≡ true = ap (λ l. takes_body (words l)) (sym kept ∙ sym c.deref.ensures.value) ∙ sym c.takes_body.ensures ∙ c.if-takes_body.true in
     let old : Conversation = conversation_of c.args.self.now in
-    let opening : Opening = record { heading = c.replace-line.result.items; body = c.new-then-takes_body.result.items } in
+    let opening : OpenCommand = record { heading = c.replace-line.result.items; body = c.new-then-takes_body.result.items } in
     let new : Conversation = record old { opening = Some opening; line = c.replace-line.new.dest.items } in
     record {
       text = [];

@@ -3,7 +3,7 @@ use Rattle.t1_code.specs.Parts.{Prints}
 use Rattle.t1_commands.specs.AnswerTexts.{answer_text}
 use Rattle.t1_commands.specs.declared.command.Command.TheVariants as commands
 use Rattle.t1_session.specs.Conversation.{IsPerformed}
-use Rattle.t1_session.specs.Machine.{printed, shown}
+use Rattle.t1_session.specs.Machine.{printed, shown_answer}
 use Rattle.t1_session.specs.State.{SessionState}
 use Rattle.t1_session.proofs.Reporting.{broken_performed, print_performed, query_performed}
 use Rattle.t1_session.proofs.performer.Performer.perform.Goals as goal
@@ -18,7 +18,7 @@ returns-in-Show g c =
     rw c.in-Show.is (subst (λ (s : SessionState). IsPerformed g.W.Write.contents c.args.self.now s c.args.out.now c.put_show.new.out (commands.Show c.in-Show.show) c.put_show.result)
     (sym (c.put_show.ensures.same ∙ c.self.view_is))
     (query_performed g.W.Write.contents c.args.self.now c.args.out.now c.put_show.new.out c.in-Show.show c.put_show.result
-    (subst (λ (s : SessionState). Prints g.W.Write.contents c.args.out.now c.put_show.new.out (Ok (answer_text (shown s c.in-Show.show))) c.put_show.result) c.self.view_is c.put_show.ensures.prints)))
+    (subst (λ (s : SessionState). Prints g.W.Write.contents c.args.out.now c.put_show.new.out (Ok (answer_text (shown_answer s c.in-Show.show))) c.put_show.result) c.self.view_is c.put_show.ensures.prints)))
 
 pub returns-in-Broken : goal.returns-in-Broken
 returns-in-Broken g c =

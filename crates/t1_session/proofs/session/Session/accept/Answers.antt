@@ -1,5 +1,5 @@
 use Rattle.std.proofs.Common.{ap, map, rules, sym}
-use Rattle.t1_cache.specs.Renewed.{kept_of}
+use Rattle.t1_cache.specs.Recorded.{kept_of}
 use Rattle.t1_held.specs.Batch.{entry_edit, keys}
 use Rattle.t1_held.specs.declared.held.ReadyHeld.{ReadyHeld}
 use Rattle.t1_session.proofs.RefusalLaws.{batch_faulty}
@@ -17,14 +17,8 @@ returns-in-Err-clause-runs c =
 pub returns-in-Err-clause-took : goal.returns-in-Err-clause-took
 returns-in-Err-clause-took c = search rules
 
-pub returns-in-Err-clause-right : goal.returns-in-Err-clause-right
-returns-in-Err-clause-right c = search rules
-
 pub returns-clause-took : goal.returns-clause-took
 returns-clause-took c = search rules
-
-pub returns-clause-right : goal.returns-clause-right
-returns-clause-right c = search rules
 
 pub returns-clause-runs : goal.returns-clause-runs
 returns-clause-runs c = search rules

@@ -1,6 +1,6 @@
 use Rattle.std.proofs.Common.{ap, subst, sym}
-use Rattle.t1_cache.specs.Kept.{KeepsAll}
 use Rattle.t1_commands.specs.declared.command.Command.TheVariants as commands
+use Rattle.t1_session.specs.Records.{AreFromScratch}
 use Rattle.t1_session.specs.Reruns.{edition, Reruns}
 use Rattle.t1_session.specs.State.{SessionView}
 use Rattle.t1_session.specs.Users.{AreUsers}
@@ -14,7 +14,7 @@ returns-clause-takes c =
     (ap (λ (v : SessionView). v.state) c.keep.ensures)
 
 pub returns-clause-right : goal.returns-clause-right
-returns-clause-right c = subst (λ (v : SessionView). KeepsAll v.state.source v.kept) (sym c.keep.ensures) c.take-taken.ensures.right
+returns-clause-right c = subst (λ (v : SessionView). AreFromScratch v.state.source v.kept) (sym c.keep.ensures) c.records_are_right.ensures
 
 pub returns-clause-users : goal.returns-clause-users
 returns-clause-users c = subst (λ (v : SessionView). AreUsers v.state.source v.users) (sym c.keep.ensures) c.users_are_right.ensures

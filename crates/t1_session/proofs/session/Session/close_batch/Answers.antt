@@ -1,6 +1,6 @@
 use Rattle.std.proofs.Common.{◌≡◌, Some, ap, map, rules, subst, sym, ◌∙◌}
 use Rattle.t1_commands.specs.declared.command.Command.TheVariants as commands
-use Rattle.t1_cache.specs.Renewed.{kept_of}
+use Rattle.t1_cache.specs.Recorded.{kept_of}
 use Rattle.t1_held.specs.Batch.{Draft, entry_edit, keys}
 use Rattle.t1_session.specs.Reruns.{Edition, edition, edition_in}
 use Rattle.t1_session.specs.RerunsByTest.{RerunsByTest}

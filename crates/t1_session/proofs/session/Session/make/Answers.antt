@@ -1,15 +1,15 @@
 use Rattle.std.proofs.Common.{◌≡◌, Err, None, Ok, ap, map, rules, subst, sym, true}
 use Rattle.std.proofs.lemmas.Result.{err_from_is_err_and}
-use Rattle.t1_font.specs.Runs.{counted, Counts}
+use Rattle.t1_font.specs.Runs.{Counts}
+use Rattle.t1_font.specs.RunCounts.{counted}
 use Rattle.t1_font.specs.SourceChecks.{source_check}
-use Rattle.t1_cache.specs.Renewed.{kept_of}
+use Rattle.t1_cache.specs.Recorded.{kept_of}
 use Rattle.t1_held.specs.declared.held.ReadyHeld.{ReadyHeld}
 use Rattle.t1_source.specs.declared.edit.Cause.{Cause}
 use Rattle.t1_source.specs.Changes.{changed, Serves}
 use Rattle.t1_source.specs.Editing.{edited}
-use Rattle.t1_cache.specs.Kept.{KeepsAll}
 use Rattle.t1_session.specs.Machine.{judged}
-use Rattle.t1_session.specs.Outcomes.{Took}
+use Rattle.t1_session.specs.Unnoted.{Took}
 use Rattle.t1_session.specs.State.{SessionView, SessionState}
 use Rattle.t1_session.proofs.RerunLaws.{edit_prepared, edit_spends, edit_unmade, renewing_runs}
 use Rattle.t1_session.proofs.StateLaws.{refused_takes}
@@ -42,9 +42,6 @@ returns-in-Err-clause-took c =
     (refused_takes c.in-Err.refusal state (changed c.args.change s.source s.pairs) c.in-Err.ensures.checked
     (subst (λ (v : SessionView). v.state.batch ≡ None) (sym c.self.view_is) c.requires.none)))
 
-pub returns-in-Err-clause-right : goal.returns-in-Err-clause-right
-returns-in-Err-clause-right c = subst (KeepsAll c.self.inside.source) (sym c.in-Err.ensures.kept) c.self.invariant.0.right.kept
-
 pub returns-in-Err-clause-runs : goal.returns-in-Err-clause-runs
 returns-in-Err-clause-runs c =
     let s = c.self.inside in
@@ -57,14 +54,8 @@ returns-in-Err-clause-runs c =
 pub returns-in_err-commit-clause-took : goal.returns-in_err-commit-clause-took
 returns-in_err-commit-clause-took c = search rules
 
-pub returns-in_err-commit-clause-right : goal.returns-in_err-commit-clause-right
-returns-in_err-commit-clause-right c = search rules
-
 pub returns-clause-took : goal.returns-clause-took
 returns-clause-took c = search rules
-
-pub returns-clause-right : goal.returns-clause-right
-returns-clause-right c = search rules
 
 pub returns-clause-runs : goal.returns-clause-runs
 returns-clause-runs c = search rules

@@ -1,7 +1,7 @@
 use Rattle.std.proofs.Common.{ℕ, List, Result, subst}
 use Rattle.t1_frac.specs.declared.fault.Fault.{Fault}
 use Rattle.t1_code.specs.Parts.{Prints}
-use Rattle.t1_commands.specs.AnswerTexts.{data_of}
+use Rattle.t1_commands.specs.AnswerParts.{data_of}
 use Rattle.t1_font.specs.Assembly.{file_in}
 use Rattle.t1_code.specs.Pfb.{pfb_of}
 use Rattle.t1_session.specs.State.{SessionView}

@@ -1,6 +1,7 @@
 use Rattle.std.proofs.Common.{Ok, ap, map, subst, sym, ◌∙◌}
 use Rattle.t1_cache.specs.Kept.{KeepsAll}
-use Rattle.t1_cache.specs.Renewed.{kept_of, record_of}
+use Rattle.t1_cache.specs.Renewed.{record_of}
+use Rattle.t1_cache.specs.Recorded.{kept_of}
 use Rattle.t1_session.specs.State.{SessionView}
 use Rattle.t1_session.specs.FromScratch.{metrics_line_from_scratch}
 use Rattle.t1_session.specs.RecordedLines.{recorded_line}

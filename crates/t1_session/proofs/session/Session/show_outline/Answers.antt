@@ -1,6 +1,7 @@
 use Rattle.std.proofs.Common.{◌≡◌, Ok, Result, ap, subst, sym, ◌∙◌}
 use Rattle.t1_font.specs.Bodies.{bodies}
-use Rattle.t1_font.specs.Runs.{counted, CountsSome}
+use Rattle.t1_font.specs.Runs.{CountsSome}
+use Rattle.t1_font.specs.RunCounts.{counted}
 use Rattle.t1_cache.specs.Bodies.{record_bodies}
 use Rattle.t1_outline.specs.Counting.{outline_runs}
 use Rattle.t1_outline.specs.Laws.{StoredOutline}

@@ -1,6 +1,6 @@
 use Rattle.std.proofs.Common.{◌≡◌, map, subst}
 use Rattle.std.specs.Prelude.{IfOk}
-use Rattle.t1_cache.specs.Renewed.{kept_of}
+use Rattle.t1_cache.specs.Recorded.{kept_of}
 use Rattle.t1_session.specs.Refusing.{refused_text}
 use Rattle.t1_session.specs.State.{SessionView}
 use Rattle.t1_session.proofs.session.Session.show_refusal.Goals as goal

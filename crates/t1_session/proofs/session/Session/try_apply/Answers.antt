@@ -1,10 +1,10 @@
 use Rattle.std.proofs.Common.{None, Result, ap, refl, subst, sym, true}
-use Rattle.t1_cache.specs.Kept.{KeepsAll}
 use Rattle.t1_source.specs.declared.edit.Cause.{Cause}
 use Rattle.t1_commands.specs.declared.command.Command.TheVariants as commands
 use Rattle.t1_session.specs.Machine.{keeping, outcome}
 use Rattle.t1_session.specs.Outcomes.{TookNoted}
-use Rattle.t1_session.specs.Refusing.{refused_after}
+use Rattle.t1_session.specs.Records.{AreFromScratch}
+use Rattle.t1_session.specs.KeptRefusals.{refused_after}
 use Rattle.t1_session.specs.Reruns.{edition, Reruns}
 use Rattle.t1_session.specs.State.{SessionView}
 use Rattle.t1_session.specs.Users.{AreUsers}
@@ -21,7 +21,7 @@ returns-in-Ok-clause-takes c =
     took
 
 pub returns-in-Ok-clause-right : goal.returns-in-Ok-clause-right
-returns-in-Ok-clause-right c = subst (λ (v : SessionView). KeepsAll v.state.source v.kept) (sym c.keep.ensures) c.take-taken.ensures.right
+returns-in-Ok-clause-right c = subst (λ (v : SessionView). AreFromScratch v.state.source v.kept) (sym c.keep.ensures) c.records_are_right.ensures
 
 pub returns-in-Ok-clause-users : goal.returns-in-Ok-clause-users
 returns-in-Ok-clause-users c = subst (λ (v : SessionView). AreUsers v.state.source v.users) (sym c.keep.ensures) c.users_are_right.ensures
@@ -45,7 +45,7 @@ returns-in-Err-clause-takes c =
     (took, refl)
 
 pub returns-in-Err-clause-right : goal.returns-in-Err-clause-right
-returns-in-Err-clause-right c = subst (λ (v : SessionView). KeepsAll v.state.source v.kept) (sym c.keep.ensures) c.take-taken.ensures.right
+returns-in-Err-clause-right c = subst (λ (v : SessionView). AreFromScratch v.state.source v.kept) (sym c.keep.ensures) c.records_are_right.ensures
 
 pub returns-in-Err-clause-users : goal.returns-in-Err-clause-users
 returns-in-Err-clause-users c = subst (λ (v : SessionView). AreUsers v.state.source v.users) (sym c.keep.ensures) c.users_are_right.ensures
