@@ -38,7 +38,7 @@ static struct text file(const char *path) {
 static void ask(t1edit_session *session, const char *line, const char *body, struct text *text) {
     uint32_t status = t1edit_perform(session, (const uint8_t *)line, strlen(line), (const uint8_t *)body, strlen(body),
                                      text->bytes, text->room, &text->len);
-    if (status == T1EDIT_UNTOLD || (status == T1EDIT_DONE && text->len > text->room)) {
+    while (status == T1EDIT_UNTOLD || (status == T1EDIT_DONE && text->len > text->room)) {
         make_room(text, text->len);
         status = t1edit_answer(session, text->bytes, text->room, &text->len);
     }

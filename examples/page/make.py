@@ -204,7 +204,7 @@ def make_wasm(wasm, known, is_proved):
     quick, begun = quick_build(), time.time()
     with tempfile.TemporaryDirectory(prefix="t1edit-page-") as room:
         module, handed, proof = (proved_module if is_proved else unproved_module)(quick, room)
-        facts = {"proof": proof, "commit": commit(), "kit": quick.KNOWN_KIT, "module": handed}
+        facts = {"proof": proof, "commit": commit(), "kit": run("rt", "version").strip(), "module": handed}
         made = linked(quick, module, room)
         # as old as the sources that were read: a file that changed meanwhile is newer
         os.utime(made, (begun, begun))

@@ -67,7 +67,10 @@ class Function:
         return hash((self.file, self.line))
 
     def is_called(self, path):
-        """Whether the prover calls it so, by its path below the crate."""
+        """Whether the prover calls it so, or a closure in it, by the path below the crate."""
+        around, is_inside, closure = f"::{path}".partition("::fn::")
+        if is_inside:
+            path = f"{around}::{closure.split('::')[0]}".removeprefix("::")
         if self.is_of_trait:
             return path.startswith(self.module) and path.endswith(f"::{self.name}") and self.owner in path
         return path == self.path or bool(self.owner) and path.endswith(f"::{self.path}")

@@ -32,6 +32,7 @@ BESIDE = [
     "tests/random --faults --count 150",
     "tests/random --all-changes",
     "tests/session-api",
+    "tests/many-pairs",
     "tests/short-writes",
     "tests/t1asm",
     "tests/run",

@@ -13,9 +13,11 @@ mod status;
 mod telling;
 mod texts;
 
-ghost use Rattle.std.specs.Prelude.{◌≡◌, ◌∷◌, [], true, None, pos, is_some, IfSome};
+ghost use Rattle.std.specs.Prelude.{◌≡◌, ◌==◌, ◌∷◌, [], true, None, pos, is_none, IfSome};
+ghost use Rattle.t1_frac.specs.Words.{words};
 ghost use Rattle.t1_code.specs.Pfb.{whole_file};
 ghost use Rattle.t1_commands.specs.Blocks.{block_size};
+ghost use Rattle.t1_commands.specs.Commands.{takes_body};
 ghost use Rattle.t1_disassemble.specs.Disassembly.{disassembled};
 ghost use Rattle.t1_session.specs.Files.{assembled, assembled_pfa, metrics_file};
 ghost use Rattle.t1_session.specs.Machine.{scratch};
@@ -97,10 +99,10 @@ pub extern "C" fn t1edit_perform(
 ) -> u32
     ensures done { result ≡ 0 → IsTurned at.old.value at.new.value line.now body.now }
     ensures told { result ≡ 0 → Told (answer_in at.new.value) out.old out.new length.new }
-    ensures memory { result ≡ 2 → at.new.value ≡ at.old.value }
     ensures untold { result ≡ 3 → IsTurned at.old.value at.new.value line.now body.now }
-    ensures misused { result ≡ 4 → is_misuse at.old.value line.now body.now ≡ true }
-    ensures same { result ≡ 4 → at.new.value ≡ at.old.value }
+    ensures misused { (result == 4) ≡ is_misuse at.old.value line.now body.now }
+    ensures memory { result ≡ 2 → takes_body (words line.now) ≡ true }
+    ensures same { is_among (2 ∷ 4 ∷ []) result ≡ true → at.new.value ≡ at.old.value }
     ensures silent { is_among (2 ∷ 3 ∷ 4 ∷ []) result ≡ true → NothingTold out.old out.new
         length.old length.new }
     ensures known { is_among (0 ∷ 2 ∷ 3 ∷ 4 ∷ []) result ≡ true }
@@ -123,9 +125,8 @@ pub extern "C" fn t1edit_answer(
     out: &mut [u8],
     length: &mut usize,
 ) -> u32
-    ensures opened { result ≡ 0 → is_some at.old.value ≡ true }
     ensures told { result ≡ 0 → Told (answer_in at.old.value) out.old out.new length.new }
-    ensures misused { result ≡ 4 → at.old.value ≡ None }
+    ensures misused { (result == 4) ≡ is_none at.old.value }
     ensures same { at.new.value ≡ at.old.value }
     ensures silent { is_among (2 ∷ 4 ∷ []) result ≡ true → NothingTold out.old out.new length.old
         length.new }
@@ -149,7 +150,7 @@ pub extern "C" fn t1edit_answer(
 pub extern "C" fn t1edit_close(alloc: Global, at: &mut Handle)
     ensures { at.new.value ≡ None }
 {
-    drop(mem::replace(at, Handle::none(alloc)).take());
+    *at = Handle::none(alloc);
 }
 
 /// Tells the PFB file of a source, or the source's first fault.

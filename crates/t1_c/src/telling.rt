@@ -1,5 +1,7 @@
 //! A session's answers told in buffers of the caller's.
-ghost use Rattle.std.specs.Prelude.{◌≡◌, ◌∷◌, [], true, false, OnErr, OnOk};
+ghost use Rattle.std.specs.Prelude.{◌≡◌, ◌==◌, ◌∷◌, [], true, not, OnErr, OnOk};
+ghost use Rattle.t1_frac.specs.Words.{words};
+ghost use Rattle.t1_commands.specs.Commands.{takes_body};
 ghost use Rattle.t1_calls.specs.Framing.{is_call};
 ghost use Rattle.t1_calls.specs.Talking.{Turns};
 ghost use Rattle.t1_c.specs.Calls.{is_among, NothingTold, Told};
@@ -23,10 +25,10 @@ pub fn tell_answer(talk: &Talk, out: &mut [u8], length: &mut usize) -> Result<()
 pub fn perform(talk: &mut Talk, line: &[u8], body: &[u8], out: &mut [u8], length: &mut usize) -> u32
     ensures done { result ≡ 0 → Turns talk.old talk.new line.now body.now }
     ensures told { result ≡ 0 → Told talk.new.answer out.old out.new length.new }
-    ensures memory { result ≡ 2 → talk.new ≡ talk.old }
     ensures untold { result ≡ 3 → Turns talk.old talk.new line.now body.now }
-    ensures misused { result ≡ 4 → is_call line.now body.now ≡ false }
-    ensures same { result ≡ 4 → talk.new ≡ talk.old }
+    ensures misused { (result == 4) ≡ not (is_call line.now body.now) }
+    ensures memory { result ≡ 2 → takes_body (words line.now) ≡ true }
+    ensures same { is_among (2 ∷ 4 ∷ []) result ≡ true → talk.new ≡ talk.old }
     ensures silent { is_among (2 ∷ 3 ∷ 4 ∷ []) result ≡ true → NothingTold out.old out.new
         length.old length.new }
     ensures known { is_among (0 ∷ 2 ∷ 3 ∷ 4 ∷ []) result ≡ true }

@@ -1,12 +1,11 @@
 -- From what a command came to, to the step of a session that it is.
-use Rattle.std.proofs.Common.{◌≡◌, ℕ, true, false, ◌==◌, List, [], ◌∷◌, ◌++◌, length, refl, sym, ◌∙◌, ap, subst}
+use Rattle.std.proofs.Common.{◌≡◌, ℕ, true, false, List, [], ◌∷◌, ◌++◌, refl, sym, ◌∙◌, ap, subst}
 use Rattle.std.specs.Prelude.{Result, Ok, Err, IfOk}
-use Rattle.std.proofs.lemmas.Bool.{and_parts}
 use Rattle.t1_frac.specs.Words.{words}
 use Rattle.t1_source.specs.declared.edit.Cause.{Cause}
 use Rattle.t1_source.specs.declared.edit.Cause.TheVariants as causes
 use Rattle.t1_source.specs.declared.edit.Rule.{Rule}
-use Rattle.t1_text.specs.Lines.{is_line, joined, lines}
+use Rattle.t1_text.specs.Lines.{joined, lines}
 use Rattle.t1_commands.specs.declared.answer.Answer.{Answer}
 use Rattle.t1_commands.specs.declared.answer.Answer.TheVariants.{Broken, OutOfMemory}
 use Rattle.t1_commands.specs.declared.command.Command.{Command}
@@ -16,14 +15,14 @@ use Rattle.t1_commands.specs.declared.show.Show.{Show}
 use Rattle.t1_commands.specs.AnswerTexts.{answer_text}
 use Rattle.t1_commands.specs.Answering as told
 use Rattle.t1_commands.specs.Answers.{answer_to, answers}
-use Rattle.t1_commands.specs.Commands.{Makes, alone, body_command, input_commands, is_edit_or_query, is_wordless, line_command, takes_body}
+use Rattle.t1_commands.specs.Commands.{Makes, body_command, input_commands, is_edit_or_query, is_wordless, line_command, takes_body}
 use Rattle.t1_session.specs.Conversation.{Performs}
 use Rattle.t1_session.specs.Machine.{after_want, machine, may_want_memory, outcome, perform, printed, shown}
 use Rattle.t1_session.specs.Outcomes.{Takes}
 use Rattle.t1_session.specs.State.{SessionState}
-use Rattle.t1_calls.specs.Framing.{framed, is_body, is_call}
-use Rattle.t1_calls.specs.Talking.{IsAnswered, Step}
-use Rattle.t1_calls.proofs.FramingLaws.{with_body, without_body}
+use Rattle.t1_calls.specs.Framing.{call_commands, framed, is_call}
+use Rattle.t1_calls.specs.Talking.{Brings, IsAnswered, Step}
+use Rattle.t1_calls.proofs.FramingLaws.{of_call}
 
 -- what was performed, and how it is answered
 pub taken : {T E : Type 0} (old new : SessionState) (command : Command) (r : Result T Cause) (a : Result Answer E)
@@ -95,41 +94,39 @@ one old new command answer step = record {
       (ap (λ (a : Answer). answer_text a ++ answers machine (answer_to machine old command step.mark).next rest more) (sym step.is));
 }
 
-of_input : (old new : SessionState) (input : List Command) (command : Command) (answer : Answer) → input ≡ command ∷ [] → Step old new command answer
-    → Performs old new input (answer_text answer)
-of_input old new input command answer is step = subst (λ (cs : List Command). Performs old new cs (answer_text answer)) (sym is) (one old new command answer step)
+of_commands : (old new : SessionState) (made : List Command) (command : Command) (answer : Answer) → made ≡ command ∷ [] → Step old new command answer
+    → Performs old new made (answer_text answer)
+of_commands old new made command answer is step = subst (λ (cs : List Command). Performs old new cs (answer_text answer)) (sym is) (one old new command answer step)
 
 -- no command, no answer
-none : (s : SessionState) (input : List Command) → input ≡ [] → Performs s s input []
-none s input is = subst (λ (cs : List Command). Performs s s cs []) (sym is) (record { marks = []; on = λ rest more. refl })
+none : (s : SessionState) (made : List Command) → made ≡ [] → Performs s s made []
+none s made is = subst (λ (cs : List Command). Performs s s cs []) (sym is) (record { marks = []; on = λ rest more. refl })
 
-abbrev bodied : List ℕ → List ℕ → Type 0
-bodied line body = (is_line line ≡ true) × (is_body body ≡ true)
-
-call_parts : (line body : List ℕ) → takes_body (words line) ≡ true → is_call line body ≡ true → bodied line body
-call_parts line body takes call = and_parts (is_line line) (is_body body) (rw takes at call)
-
-line_part : (line body : List ℕ) → takes_body (words line) ≡ false → is_call line body ≡ true → is_line line ≡ true
-line_part line body takes call = (and_parts (is_line line) (length body == 0) (rw takes at call)).0
+-- what a call's command does, its texts do as input
+brought : (old new : SessionState) (line body text : List ℕ) → is_call line body ≡ true → Performs old new (call_commands line body) text → Brings old new (framed line body) text
+brought old new line body text call performs = record {
+  marks = performs.marks;
+  on = λ rest ended more.
+      ap (λ (cs : List Command). answers machine old cs (performs.marks ++ more)) (of_call ended line body rest call) ∙ performs.on (input_commands ended rest) more;
+}
 
 -- a line with its body
 pub spoken_with : (old new : SessionState) (line body : List ℕ) (answer : Answer) → takes_body (words line) ≡ true → is_call line body ≡ true
-    → Step old new (body_command (words line) (joined (lines body))) answer → Performs old new (input_commands true (framed line body)) (answer_text answer)
+    → Step old new (body_command (words line) (joined (lines body))) answer → Brings old new (framed line body) (answer_text answer)
 spoken_with old new line body answer takes call step =
-    let parts = call_parts line body takes call in
-    of_input old new (input_commands true (framed line body)) (body_command (words line) (joined (lines body))) answer (with_body line body takes parts.0 parts.1) step
+    let made : call_commands line body ≡ body_command (words line) (joined (lines body)) ∷ [] = rw takes refl in
+    brought old new line body (answer_text answer) call (of_commands old new (call_commands line body) (body_command (words line) (joined (lines body))) answer made step)
 
 -- a line that takes none
 pub spoken : (old new : SessionState) (line body : List ℕ) (answer : Answer) → takes_body (words line) ≡ false → is_call line body ≡ true
-    → is_wordless (words line) ≡ false → Step old new (line_command (words line)) answer → Performs old new (input_commands true (framed line body)) (answer_text answer)
+    → is_wordless (words line) ≡ false → Step old new (line_command (words line)) answer → Brings old new (framed line body) (answer_text answer)
 spoken old new line body answer takes call some step =
-    let command : alone (words line) ≡ line_command (words line) ∷ [] = rw some refl in
-    of_input old new (input_commands true (framed line body)) (line_command (words line)) answer
-    (without_body line body takes (line_part line body takes call) ∙ command) step
+    let made : call_commands line body ≡ line_command (words line) ∷ [] = rw (takes, some) refl in
+    brought old new line body (answer_text answer) call (of_commands old new (call_commands line body) (line_command (words line)) answer made step)
 
 -- a line without words
 pub unspoken : (s : SessionState) (line body : List ℕ) → takes_body (words line) ≡ false → is_call line body ≡ true → is_wordless (words line) ≡ true
-    → Performs s s (input_commands true (framed line body)) []
+    → Brings s s (framed line body) []
 unspoken s line body takes call blank =
-    let command : alone (words line) ≡ [] = rw blank refl in
-    none s (input_commands true (framed line body)) (without_body line body takes (line_part line body takes call) ∙ command)
+    let made : call_commands line body ≡ [] = rw (takes, blank) refl in
+    brought s s line body [] call (none s (call_commands line body) made)

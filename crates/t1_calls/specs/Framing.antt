@@ -4,7 +4,8 @@ use Rattle.std.specs.List.{list_all}
 use Rattle.t1_frac.specs.Ascii.{line_feed}
 use Rattle.t1_frac.specs.Words.{words}
 use Rattle.t1_text.specs.Lines.{is_line, is_line_end, joined, lines}
-use Rattle.t1_commands.specs.Commands.{ends_body, takes_body}
+use Rattle.t1_commands.specs.declared.command.Command.{Command}
+use Rattle.t1_commands.specs.Commands.{alone, body_command, ends_body, takes_body}
 
 -- word, lines: a byte that ends no line
 abbrev pub is_line_byte : ℕ → Bool
@@ -24,3 +25,7 @@ is_call line body = if takes_body (words line) then is_line line && is_body body
 abbrev pub framed : List ℕ → List ℕ → List ℕ
 framed line body =
     if takes_body (words line) then line ++ line_feed ∷ (joined (lines body) ++ (codes "." ++ line_feed ∷ [])) else line ++ line_feed ∷ []
+
+-- profile, session commands: the command of a call's texts: none where its line has no words
+abbrev pub call_commands : List ℕ → List ℕ → List Command
+call_commands line body = if takes_body (words line) then body_command (words line) (joined (lines body)) ∷ [] else alone (words line)

@@ -3,8 +3,9 @@
 //!
 //! A [`Talk`] does what `serve` of `t1_session` does with the lines of an input, a command at a
 //! time, and keeps the answer to the last one. [`pfb_of`], [`blocks_of`], [`pfa_of`] and [`afm_of`]
-//! make the files of a source, and [`check`] judges it; [`laws`] says that it passes exactly where
-//! `t1_fault_texts` has no line of faults.
+//! make the files of a source, and [`check`] judges it. [`laws`] says that the texts of a call are
+//! its command as input too, and that a source passes exactly where `t1_fault_texts` has no line of
+//! faults.
 //!
 //! All of it is for users, and for `t1_c`, which hands it to C.
 #![tactic(auto)]

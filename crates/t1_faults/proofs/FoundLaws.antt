@@ -19,15 +19,9 @@ use Rattle.t1_faults.specs.Composites.{OwnRuns, composites_of}
 use Rattle.t1_faults.specs.Judging.{entry_faults, join_fault, join_faults, or_else, run_faults}
 use Rattle.t1_faults.specs.Met.{failed_runs, faults_at, met_in, own_fault}
 use Rattle.t1_faults.specs.Telling.{TellsWord}
-use Rattle.std.specs.Prelude.{ok_or}
-use Rattle.std.specs.List.{position}
-use Rattle.t1_frac.specs.Outcome.{fault_at, ◌>>=◌}
-use Rattle.t1_frac.specs.declared.fault.Code.TheVariants.{F1, F2}
 use Rattle.t1_frac.specs.declared.fault.Fault.{Fault}
-use Rattle.t1_frac.specs.declared.fault.Place.TheVariants.{Nowhere}
-use Rattle.t1_frac.proofs.OutcomeLaws.{bind_ok}
 use Rattle.t1_text.specs.Lines.{lines}
-use Rattle.t1_parts.specs.Parts.{Parts, is_closefile, is_eexec, parts_of}
+use Rattle.t1_parts.specs.Parts.{parts_of}
 use Rattle.t1_parts.specs.Reading.{reads}
 use Rattle.t1_parts.specs.SourceParts.{SourceParts}
 use Rattle.t1_source.proofs.WellFormedSourceLaws.{taken_apart, TakenApart}
@@ -38,6 +32,7 @@ use Rattle.t1_font.specs.Glyphs.{glyph_names}
 use Rattle.t1_font.specs.ToRun.{font_to_run}
 use Rattle.t1_faults.specs.Judging.{entries_in, faults_alone, faults_of, faults_read, file_faults, source_faults}
 use Rattle.t1_faults.proofs.CompositeLaws.{words_still}
+use Rattle.t1_faults.proofs.LineLaws.{FaultsIn, parts_whole, placed_tells, reading_in}
 use Rattle.t1_faults.proofs.PlacedLaws.{all_append}
 use Rattle.t1_faults.proofs.StandingLaws.{Stands, WordsStand, entries_stand}
 
@@ -91,24 +86,6 @@ joins_tell all run (e ∷ es) =
 
 -- ---- a source
 
--- the parts of some lines are all of them
-parts_whole : (ls : List (List ℕ)) (p : Parts) → parts_of ls ≡ Ok p → ls ≡ p.clear ++ (p.private ++ p.tail)
-unfolding parts_of
-parts_whole ls p e =
-    let a = bind_ok (ok_or (position is_eexec ls) (fault_at Nowhere F1)) (λ (eexec : ℕ). ok_or (position is_closefile (drop (eexec + 1) ls)) (fault_at Nowhere F2) >>= λ (closefile : ℕ).
-    Ok (record {
-      clear = take (eexec + 1) ls;
-      private = take (closefile + 1) (drop (eexec + 1) ls);
-      tail = drop (closefile + 1) (drop (eexec + 1) ls);
-    })) p e in
-    let after = drop (a.0 + 1) ls in
-    let b = bind_ok (ok_or (position is_closefile after) (fault_at Nowhere F2)) (λ (closefile : ℕ). Ok (record { clear = take (a.0 + 1) ls; private = take (closefile + 1) after; tail = drop (closefile + 1) after })) p a.2 in
-    let made : Parts = record { clear = take (a.0 + 1) ls; private = take (b.0 + 1) after; tail = drop (b.0 + 1) after } in
-    let last : ◌≡◌ {A = Result Parts Fault} (Ok made) (Ok p) = b.2 in
-    let same : made ≡ p = cc in
-    subst (λ (q : Parts). ls ≡ q.clear ++ (q.private ++ q.tail)) same
-    (sym (take-append-drop (a.0 + 1) ls) ∙ ap (λ t. take (a.0 + 1) ls ++ t) (sym (take-append-drop (b.0 + 1) after)))
-
 lines_stand : (ls : List (List ℕ)) (s : SourceParts) → TakenApart ls s → AllByRecursion (WordsStand ls) (entries_in (parts_of ls) s)
 lines_stand ls s t =
     let n = length t.parts.private - 1 in
@@ -136,9 +113,15 @@ found_of ls s h =
     (all_append (TellsWord ls) mine (file ++ flat_map (join_faults run) es) (entries_tell ls (own_fault failed) (faults_at failed) es h)
     (all_append (TellsWord ls) file (flat_map (join_faults run) es) (file_tells ls (bodies_check s.items) (file_check s)) (joins_tell ls run es)))
 
--- the source has the word of each fault that is found at its line and column
-pub words_there : (bytes : List ℕ) (s : SourceParts) → reads bytes ≡ Ok s → AllByRecursion (TellsWord (lines bytes)) (source_faults bytes)
+read_there : (bytes : List ℕ) (s : SourceParts) → reads bytes ≡ Ok s → AllByRecursion (TellsWord (lines bytes)) (faults_of (lines bytes) s)
 unfolding reads
-words_there bytes s e =
-    subst (λ r. AllByRecursion (TellsWord (lines bytes)) (faults_read (lines bytes) r)) (sym e)
-    (found_of (lines bytes) s (lines_stand (lines bytes) s (taken_apart (lines bytes) s e)))
+read_there bytes s e = found_of (lines bytes) s (lines_stand (lines bytes) s (taken_apart (lines bytes) s e))
+
+-- the bytes have the word of each fault that is found at its line and column
+pub words_there : (bytes : List ℕ) → AllByRecursion (TellsWord (lines bytes)) (source_faults bytes)
+words_there bytes = by (reads bytes) refl where
+  by : (r : Result SourceParts Fault) → reads bytes ≡ r → AllByRecursion (TellsWord (lines bytes)) (source_faults bytes)
+  by (Ok s) e = subst (λ r. AllByRecursion (TellsWord (lines bytes)) (faults_read (lines bytes) r)) (sym e) (read_there bytes s e)
+  by (Err fault) e =
+      let inside = subst (FaultsIn 1 (1 + length (lines bytes))) e (reading_in bytes) in
+      subst (λ r. AllByRecursion (TellsWord (lines bytes)) (faults_read (lines bytes) r)) (sym e) (placed_tells (lines bytes) fault.code fault.place inside, tt)

@@ -6,8 +6,10 @@ pub mod FailureLaws
 pub mod FoundLaws
 pub mod JudgingLaws
 pub mod KeptLaws
+pub mod LineLaws
 pub mod LoopLaws
 pub mod MetLaws
+pub mod PairsLaws
 pub mod PlacedLaws
 pub mod ReadingLaws
 pub mod SoundLaws

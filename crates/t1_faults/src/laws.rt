@@ -5,9 +5,10 @@ ghost use Rattle.std.specs.List.{AllByRecursion};
 ghost use Rattle.t1_frac.specs.declared.fault.Fault.{Fault};
 ghost use Rattle.t1_frac.specs.declared.fault.Place.TheVariants.{Glyph};
 ghost use Rattle.t1_text.specs.Lines.{lines};
+ghost use Rattle.t1_pairs.specs.Kerning.{pairs};
 ghost use Rattle.t1_parts.specs.Reading.{reads};
-ghost use Rattle.t1_parts.specs.SourceParts.{SourceParts};
 ghost use Rattle.t1_faults.specs.Judging.{checked, source_faults};
+ghost use Rattle.t1_faults.specs.Reading.{reading_fault};
 ghost use Rattle.t1_faults.specs.Telling.{IsAnswered, IsNamed, TellsComposites, TellsWord};
 ghost use Rattle.t1_faults.specs.Telling.{runs_read};
 
@@ -28,10 +29,16 @@ pub fn reported_fault_is_found()
         IsAnswered (runs_read (reads bytes)) (source_faults bytes) fault }
 {}
 
-/// In a source that reads, the word of each fault that is found stands at its line and column.
+/// The word of each fault that is found stands at its line and column.
 pub fn words_stand_there()
-    ensures { (bytes : List ℕ) (s : SourceParts) → reads bytes ≡ Ok s →
+    ensures { (bytes : List ℕ) →
         AllByRecursion (TellsWord (lines bytes)) (source_faults bytes) }
+{}
+
+/// The word of the fault of a kerning file stands at its line and column.
+pub fn words_of_pairs_stand_there()
+    ensures { (bytes : List ℕ) (fault : Fault) → pairs bytes ≡ Err fault →
+        TellsWord (lines bytes) (reading_fault (lines bytes) fault) }
 {}
 
 /// Each composite that is told with a fault stands on a glyph that the fault names.

@@ -51,7 +51,7 @@ pub fn metrics<'a>(
 {
     let metrics = glyphs.metrics();
     let chars = char_metrics(alloc, source, metrics)?;
-    let pairs = kern_metrics(alloc, metrics, pairs.list())?;
+    let pairs = kern_metrics(alloc, metrics, pairs)?;
     let composites = composite_metrics(alloc, metrics)?;
     Ok(Metrics {
         header: header(source),

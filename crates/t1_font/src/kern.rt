@@ -8,7 +8,7 @@ use crate::glyph_metrics::GlyphMetrics;
 use indexmap::IndexSet;
 use std::alloc::{AllocError, Global};
 use t1_afm::{KernPair, Text};
-use t1_pairs::Pair;
+use t1_pairs::{Pair, Pairs};
 
 /// Adds a name.
 pub(crate) fn add_name<'a>(names: &mut IndexSet<&'a [u8]>, name: &'a [u8]) -> Result<(), AllocError>
@@ -55,13 +55,13 @@ fn kern_pair<'a>(names: &IndexSet<&[u8]>, pair: &'a Pair) -> Option<KernPair<'a>
 fn pairs_among<'a>(
     alloc: Global,
     names: &IndexSet<&[u8]>,
-    pairs: &'a [Pair],
+    pairs: &'a Pairs,
 ) -> Result<Vec<KernPair<'a>>, AllocError>
     ensures { IfOk result
         (λ found. found.items ≡ filter_map (kern_of (is_name_kept names.now.keys)) pairs.now) }
 {
     let mut found = Vec::new(alloc);
-    for pair in pairs {
+    for pair in pairs.iter() {
         let Some(metric) = kern_pair(names, pair) else {
             continue;
         };
@@ -74,11 +74,11 @@ fn pairs_among<'a>(
 pub fn kern_metrics<'a>(
     alloc: Global,
     metrics: &[GlyphMetrics],
-    pairs: &'a [Pair],
+    pairs: &'a Pairs,
 ) -> Result<Vec<KernPair<'a>>, AllocError>
     ensures { IfOk result (λ found. found.items ≡ kern_pairs metrics.now pairs.now) }
 {
-    if pairs.is_empty() {
+    if pairs.len() == 0 {
         return Ok(Vec::new(alloc));
     }
     let names = names_of(alloc, metrics)?;

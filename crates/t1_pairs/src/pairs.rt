@@ -4,6 +4,7 @@ use itoa::Buffer;
 use std::alloc::{AllocError, Global};
 use std::collections::BTreeMap;
 use std::marker::Model;
+use t1_blocks::{Blocks, BlocksIter};
 use t1_frac::{Bytes, Code, Refusal, next_word, number_word};
 use t1_text::{fault_on, first_line, is_name, same};
 
@@ -19,7 +20,7 @@ pub struct Pair {
 #[derive(Drop)]
 pub struct Pairs {
     alloc: Global,
-    pairs: Vec<Pair>,
+    pairs: Blocks<Pair>,
 }
 
 impl Model for Pairs {
@@ -28,12 +29,12 @@ impl Model for Pairs {
 
     ghost Value = { List Pair };
 
-    ghost view = { λ p. p.pairs.items };
+    ghost view = { λ p. p.pairs };
 
     ghost use Rattle.std.specs.Prelude.{◌≡◌, true};
     ghost use Rattle.t1_pairs.specs.Kerning.{are_pairs};
 
-    ghost invariant = { λ p. are_pairs p.pairs.items ≡ true };
+    ghost invariant = { λ p. are_pairs p.pairs ≡ true };
 }
 
 /// The pairs so far. Contracts see them in printed order.
@@ -86,10 +87,10 @@ impl Sorted {
     }
 
     /// The pairs in printed order.
-    fn into_pairs(self, alloc: Global) -> Result<Vec<Pair>, AllocError>
-        ensures { IfOk result (λ pairs. pairs.items ≡ self) }
+    fn into_pairs(self, alloc: Global) -> Result<Blocks<Pair>, AllocError>
+        ensures { IfOk result (λ pairs. pairs ≡ self) }
     {
-        let mut pairs = Vec::new(alloc);
+        let mut pairs = Blocks::new(alloc);
         for ((left, right), value) in self.values {
             pairs.push(Pair {
                 left: Bytes::new(left),
@@ -270,11 +271,11 @@ impl Pair {
 }
 
 /// Copies of some pairs.
-fn copied_pairs(alloc: Global, pairs: &[Pair]) -> Result<Vec<Pair>, AllocError>
-    ensures { IfOk result (λ copies. copies.items ≡ pairs.now) }
+fn copied_pairs(alloc: Global, pairs: &Blocks<Pair>) -> Result<Blocks<Pair>, AllocError>
+    ensures { IfOk result (λ copies. copies ≡ pairs.now) }
 {
-    let mut copies = Vec::new(alloc);
-    for pair in pairs {
+    let mut copies = Blocks::new(alloc);
+    for pair in pairs.iter() {
         copies.push(pair.copied(alloc)?)?;
     }
     Ok(copies)
@@ -292,7 +293,7 @@ impl Pairs {
     {
         Ok(Pairs {
             alloc: self.alloc,
-            pairs: copied_pairs(self.alloc, self.list())?,
+            pairs: copied_pairs(self.alloc, &self.pairs)?,
         })
     }
 
@@ -302,7 +303,7 @@ impl Pairs {
         requires made { are_pairs (slice_set self.old at pair) ≡ true }
         ensures { self.new ≡ slice_set self.old at pair }
     {
-        self.pairs[at] = pair;
+        self.pairs.set(at, pair);
     }
 
     /// Puts a new pair in. Where memory runs out, nothing has changed.
@@ -312,8 +313,7 @@ impl Pairs {
         ensures ok { OnOk result (self.new ≡ insert self.old at pair) }
         ensures err { OnErr result (self.new ≡ self.old) }
     {
-        self.pairs.insert(at, pair)?;
-        Ok(())
+        self.pairs.insert(at, pair)
     }
 
     /// Takes a pair out.
@@ -322,15 +322,30 @@ impl Pairs {
         requires made { are_pairs (remove self.old at) ≡ true }
         ensures { self.new ≡ remove self.old at }
     {
-        let _pair = self.pairs.remove(at);
+        self.pairs.remove(at);
+    }
+
+    /// How many pairs they are.
+    pub fn len(&self) -> usize
+        ensures value { result ≡ length self.now }
+        ensures kept { are_pairs self.now ≡ true }
+    {
+        self.pairs.len()
     }
 
     /// The pairs in printed order.
-    pub fn list(&self) -> &[Pair]
+    pub fn iter(&self) -> BlocksIter<'_, Pair>
+        ensures { result ≡ self.now }
+    {
+        self.pairs.iter()
+    }
+
+    /// The pairs as they are kept.
+    pub(crate) fn blocks(&self) -> &Blocks<Pair>
         ensures value { result.now ≡ self.now }
         ensures kept { are_pairs result.now ≡ true }
     {
-        self.pairs.as_slice()
+        &self.pairs
     }
 
     /// The printed form.
@@ -338,10 +353,8 @@ impl Pairs {
         ensures { IfOk result (λ t. t.items ≡ kern self.now) }
     {
         let mut text = Vec::new(self.alloc);
-        let mut rest = self.pairs.as_slice();
-        while let Some((pair, after)) = rest.split_first() {
+        for pair in self.pairs.iter() {
             push_pair(&mut text, pair)?;
-            rest = after;
         }
         Ok(text)
     }

@@ -6,18 +6,19 @@ use crate::status::Stop;
 use std::alloc::Global;
 use std::io::Write;
 use t1_code::Counted;
-use t1_disassemble::disassemble;
+use t1_disassemble::disassemble_in_place;
 use t1_session::ServeError;
 
-/// Writes the source of a font's file.
+/// Writes the source of a font's file, whose memory may change. Of the file nothing is known
+/// afterwards.
 pub fn disassemble_to<W: Write>(
     alloc: Global,
-    font: &[u8],
+    font: &mut [u8],
     out: &mut Counted<W>,
 ) -> Result<(), Stop>
-    ensures { DeliversSource W.contents out.old out.new (disassembled font.now) result }
+    ensures { DeliversSource W.contents out.old out.new (disassembled font.old) result }
 {
-    let source = disassemble(alloc, font)?;
+    let source = disassemble_in_place(alloc, font)?;
     match out.put_all(&source) {
         Ok(()) => Ok(()),
         Err(_) => Err(Stop::from(ServeError::Write)),

@@ -105,7 +105,7 @@ impl<'a> Source<'a> {
         ensures serves { IfOk result (λ change. Serves change self.now pairs.now) }
     {
         let _items = self.kept_items();
-        let _list = pairs.list();
+        let _count = pairs.len();
         let change = self.found_change(pairs, edit, near)?;
         Ok(change)
     }

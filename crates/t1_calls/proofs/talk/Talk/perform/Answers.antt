@@ -1,9 +1,8 @@
 use Rattle.std.proofs.Common.{◌≡◌, true, false, [], subst, rules}
 use Rattle.t1_frac.specs.Words.{words}
-use Rattle.t1_commands.specs.Commands.{input_commands, is_wordless, line_command, takes_body}
-use Rattle.t1_session.specs.Conversation.{Performs}
+use Rattle.t1_commands.specs.Commands.{is_wordless, line_command, takes_body}
 use Rattle.t1_calls.specs.Framing.{framed, is_call}
-use Rattle.t1_calls.specs.Talking.{Spoken, Step}
+use Rattle.t1_calls.specs.Talking.{Brings, Spoken, Step}
 use Rattle.t1_calls.proofs.PerformingLaws.{spoken, unspoken}
 use Rattle.t1_calls.proofs.talk.Talk.perform.Goals as goal
 
@@ -14,7 +13,7 @@ returns-then-is_blank_line c =
     let call : is_call line body ≡ true = search rules in
     let takes : takes_body (words line) ≡ false = search rules in
     let blank : is_wordless (words line) ≡ true = search rules in
-    (call, subst (λ (s : Spoken). Performs s.state c.self.inside.session.state (input_commands true (framed line body)) []) c.self.view_is (unspoken c.self.inside.session.state line body takes call blank))
+    (call, subst (λ (s : Spoken). Brings s.state c.self.inside.session.state (framed line body) []) c.self.view_is (unspoken c.self.inside.session.state line body takes call blank))
 
 -- a line that takes no body
 pub returns : goal.returns
