@@ -1,5 +1,5 @@
 -- Where the entry of a key stands, and through which item its section goes.
-use Rattle.std.proofs.Common.{◌≡◌, ◌≤◌, ◌<◌, ◌+◌, Bool, true, false, ◌||◌, ℕ, zero, suc, Option, Some, None, is_some, List, [], ◌∷◌, ◌++◌, length, take, drop, nat_lt, if◌then◌else◌, refl, sym, ◌∙◌, ap, inl, inr, arith}
+use Rattle.std.proofs.Common.{◌≡◌, ◌≤◌, ◌<◌, ◌+◌, Bool, true, false, ℕ, zero, suc, Some, None, is_some, List, [], ◌∷◌, ◌++◌, length, take, drop, nat_lt, refl, sym, ◌∙◌, ap, inl, inr, arith}
 use Rattle.std.specs.List.{list_any, position, position_or_len, slice_index_or}
 use Rattle.std.proofs.lemmas.Bool.{cases_Bool, ltb-true, ltb-false}
 use Rattle.std.proofs.lemmas.List.{append_assoc, append-nil, length-append}
@@ -17,7 +17,7 @@ use Rattle.t1_parts.specs.Items.{items_in, stretch_items, line_items, AreSingle,
 use Rattle.t1_parts.proofs.PartLaws.{no_position, cut_position}
 use Rattle.t1_parts.proofs.PlaceLaws.{any_below}
 use Rattle.t1_parts.proofs.SingleLaws.{single_length, single_taken, single_at}
-use Rattle.t1_parts.proofs.StretchLaws.{in_two, from_index, place_item, found_past}
+use Rattle.t1_parts.proofs.StretchLaws.{in_two, from_index, place_item}
 
 -- ---- no plain line is an entry or a section line
 
