@@ -230,6 +230,9 @@ pub fn taken_out(alloc: Global, records: &Records, steps: &[Step]) -> Result<Nam
     ensures { IfOk result (λ names. AreTakenOut names.keys steps.now) }
 {
     let mut names = IndexSet::new(alloc);
+    if steps.len() < 2 {
+        return Ok(names);
+    }
     for step in steps {
         let Some(name) = recorded_name_taken_out(records, step) else {
             continue;
