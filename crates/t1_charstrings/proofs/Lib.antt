@@ -9,5 +9,6 @@ mod GlyphCounts
 pub mod Inserting
 pub mod MadeItems
 pub mod Readying
+mod SectionFrontLaws
 pub mod Texts
 pub mod Totals

@@ -132,13 +132,12 @@ fn section_len(item: &Item) -> usize
     }
 }
 
-/// How long the section lines are, up to 2^64 - 1. Lines that stand together are passed over as a
-/// whole.
+/// How long the section lines are, up to 2^64 - 1. Behind the last one no item is looked at.
 pub fn sections_len(items: &Items) -> usize
     ensures { result ≡ min (length (section_lines_text items.now)) (2 ^ 64 - 1) }
 {
     let mut total: usize = 0;
-    for item in items.iter().alone() {
+    for item in items.through_sections().alone() {
         total = total.saturating_add(section_len(item));
     }
     total

@@ -12,7 +12,7 @@ use crate::entries::Charstrings;
 use crate::lengths::{line_len, section_line_len};
 use t1_font::TEN_DIGITS;
 use t1_frac::{Code, Fault};
-use t1_parts::{ItemRef, Items, ItemsIter, glyphs_needed, subrs_needed};
+use t1_parts::{ItemRef, Items, ItemsIter};
 use t1_source::Item;
 use t1_text::last_is;
 
@@ -27,7 +27,7 @@ pub(crate) struct Needed {
 fn subrs_with(items: &Items, item: &Item) -> u64
     ensures { result ≡ subrs_needed (item.now ∷ items.now) }
 {
-    let needed = subrs_needed(items.iter());
+    let needed = items.subrs_needed();
     match item {
         Item::Subr(number, _, _) => (u64::from(*number) + 1).max(needed),
         _ => needed,
@@ -40,7 +40,7 @@ fn glyphs_with(items: &Items, item: &Item) -> u64
     requires { glyphs_needed items.now < 2 ^ 64 - 1 }
     ensures { result ≡ glyphs_needed (item.now ∷ items.now) }
 {
-    let needed = glyphs_needed(items.iter());
+    let needed = items.glyphs_needed();
     match item {
         Item::Glyph(_, _, _) => needed + 1,
         _ => needed,
@@ -89,14 +89,13 @@ fn raised_len(item: &Item, needed: &Needed) -> usize
     }
 }
 
-/// How long the raised section lines are, up to 2^64 - 1. Lines that stand together are passed over
-/// as a whole.
+/// How long the raised section lines are, up to 2^64 - 1. Behind the last one no item is looked at.
 pub(crate) fn raised_sections_len(items: &Items, needed: &Needed) -> usize
     ensures { result
         ≡ min (length (raised_text needed.now.subrs needed.now.glyphs items.now)) (2 ^ 64 - 1) }
 {
     let mut total: usize = 0;
-    for item in items.iter().alone() {
+    for item in items.through_sections().alone() {
         total = total.saturating_add(raised_len(item, needed));
     }
     total
@@ -188,4 +187,12 @@ pub(crate) fn check_raised(items: &ItemsIter, needed: &Needed) -> Result<(), Fau
         }
     }
     Ok(())
+}
+
+/// F23 where a raised count has more than nine digits. Behind the last section line no item is
+/// looked at.
+pub(crate) fn check_raised_sections(items: &Items, needed: &Needed) -> Result<(), Fault>
+    ensures { result ≡ raised_check needed.now.subrs needed.now.glyphs items.now }
+{
+    check_raised(&items.through_sections(), needed)
 }

@@ -16,7 +16,7 @@ use crate::batch::batch_line_len;
 use crate::edited::EditedEntries;
 use crate::entries::Charstrings;
 use crate::lengths::{line_ref_len, sections_len};
-use crate::raising::{Needed, check_raised, needed_with, raised_sections_len};
+use crate::raising::{Needed, check_raised_sections, needed_with, raised_sections_len};
 use t1_font::check_parts;
 use t1_frac::Fault;
 use t1_source::{Item, Source};
@@ -143,7 +143,7 @@ pub(crate) fn len_inserted(
         &needed,
     );
     check_parts(source.clear(), len, source.tail())?;
-    check_raised(&source.items().iter(), &needed)?;
+    check_raised_sections(source.items(), &needed)?;
     Ok(len)
 }
 

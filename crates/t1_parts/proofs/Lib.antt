@@ -5,12 +5,14 @@ pub mod CountLaws
 pub mod DemoRows
 pub mod EncodingLaws
 pub mod EntryLaws
+pub mod EntryPlaceLaws
 pub mod GroupLaws
 pub mod HeaderLaws
 pub mod ItemLaws
 pub mod KeyLaws
 pub mod LeadKeptLaws
 pub mod LeadLaws
+pub mod NeedLaws
 pub mod NumberedLaws
 pub mod OpeningLaws
 pub mod PartLaws
@@ -22,6 +24,7 @@ pub mod Rows
 pub mod RunCutLaws
 pub mod RunLaws
 pub mod SearchLaws
+pub mod SectionEndLaws
 pub mod SectionLaws
 pub mod SingleLaws
 pub mod StretchLaws

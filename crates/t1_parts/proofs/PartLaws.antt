@@ -24,7 +24,7 @@ at_end p (x ∷ xs) h = elim (cases_Bool (p x)) [
   | inr e ↦ (let more = at_end p xs (rw e at h) in rw e (omega (arith, more)))
 ]
 
-no_position : {X : Type 0} (p : X → Bool) (xs : List X) → list_any p xs ≡ false → position p xs ≡ None
+pub no_position : {X : Type 0} (p : X → Bool) (xs : List X) → list_any p xs ≡ false → position p xs ≡ None
 no_position p xs h = ap (λ t. if t then Some (position_or_len p xs) else None) (le-ltb (position_or_len p xs) (length xs) (at_end p xs h))
 
 pub place_of : {X : Type 0} (p : X → Bool) (xs : List X) (y : X) (zs : List X) → list_any p xs ≡ false → p y ≡ true → position_or_len p (xs ++ y ∷ zs) ≡ length xs
@@ -38,7 +38,7 @@ pub longer : {X : Type 0} (xs : List X) (y : X) (zs : List X) → length xs < le
 longer [] y zs = omega arith
 longer (x ∷ xs) y zs = let more = longer xs y zs in omega (arith, more)
 
-cut_position : {X : Type 0} (p : X → Bool) (xs : List X) (y : X) (zs : List X) → list_any p xs ≡ false → p y ≡ true → position p (xs ++ y ∷ zs) ≡ Some (length xs)
+pub cut_position : {X : Type 0} (p : X → Bool) (xs : List X) (y : X) (zs : List X) → list_any p xs ≡ false → p y ≡ true → position p (xs ++ y ∷ zs) ≡ Some (length xs)
 cut_position p xs y zs h k =
     let at = place_of p xs y zs h k in
     ap (λ n. if nat_lt n (length (xs ++ y ∷ zs)) then Some n else None) at

@@ -16,7 +16,7 @@ single_length (s ∷ ss) h =
     let rest = single_length ss h.1 in
     omega (arith, front, rest, h.0)
 
-single_taken : (i : ℕ) (ss : List Stretch) → AreSingle ss → i ≤ length ss → length (items_in (take i ss)) ≡ i
+pub single_taken : (i : ℕ) (ss : List Stretch) → AreSingle ss → i ≤ length ss → length (items_in (take i ss)) ≡ i
 single_taken zero ss h within = refl
 single_taken (suc i) [] h within = absurd (omega (arith, within))
 single_taken (suc i) (s ∷ ss) h within =

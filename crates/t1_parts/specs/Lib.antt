@@ -1,12 +1,14 @@
 pub mod Counts
 pub mod Encoding
 pub mod Entries
+pub mod EntryKeys
 pub mod Gathered
 pub mod Header
 pub mod ItemRefs
 pub mod Items
 pub mod LenIV
 pub mod LineCuts
+pub mod Needs
 pub mod NumberedStretches
 pub mod Operator
 pub mod Parts

@@ -53,7 +53,7 @@ pub(crate) fn raise_item(item: &mut Item, subrs: u64, glyphs: u64)
 pub fn raise(items: &mut Items)
     ensures { items.new ≡ raised items.old }
 {
-    let subrs = subrs_needed(items.iter());
-    let glyphs = glyphs_needed(items.iter());
+    let subrs = items.subrs_needed();
+    let glyphs = items.glyphs_needed();
     items.raise_counts(subrs, glyphs);
 }

@@ -2,28 +2,39 @@
 
 ghost use Rattle.std.specs.Prelude.{◌≡◌, ◌<◌, ◌≤◌, ◌^◌, ◌++◌, ◌∷◌, ◌||◌, [], false, true, length};
 ghost use Rattle.std.specs.Prelude.{map, take, drop, slice_set, IfOk, OnOk, OnErr, IsOk};
-ghost use Rattle.std.specs.Prelude.{option_map};
-ghost use Rattle.std.specs.List.{insert, remove, slice_get, slice_index_or};
+ghost use Rattle.std.specs.Prelude.{option_map, IfSome};
+ghost use Rattle.std.specs.List.{insert, list_any, position, remove, slice_get};
+ghost use Rattle.std.specs.List.{slice_index_or};
 ghost use Rattle.t1_parts.specs.declared.item.Item.{Item};
-ghost use Rattle.t1_parts.specs.Counts.{raised_item};
+ghost use Rattle.t1_parts.specs.Counts.{raised_item, subrs_needed, glyphs_needed};
+ghost use Rattle.t1_parts.specs.EntryKeys.{is_entry_of, is_of_kind, is_section};
+ghost use Rattle.t1_parts.specs.EntryKeys.{IsEntryAt, IsThrough};
 ghost use Rattle.t1_parts.specs.Items.{items_in, stretch_items, AreSingle, StandsAloneAt};
 ghost use Rattle.t1_parts.specs.ItemRefs.{item_of};
 ghost use Rattle.t1_parts.specs.LenIV.{lead_among, says_lead};
 
+use crate::entry_key::{EntryKey, ItemKind};
+use crate::entry_places::{entry_before, place_of_entry, through_last};
 use crate::item::Item;
 use crate::item_ref::ItemRef;
 use crate::items_iter::{ItemsIter, item_before, items_among, items_between};
 use crate::len_iv::{lead_of, says_lead};
+use crate::needs::{
+    Needs, ask_the_same, needs_after, needs_among, needs_of, needs_of_stretch, needs_there,
+    needs_without, together,
+};
+use crate::section_ends::{end_inserted, end_pushed, end_put, end_removed};
 use crate::stretch::Stretch;
 use crate::stretches::{
     copied_stretches, cut_before, drop_first, insert_stretch, item_count, place_of, put_first,
-    raise_stretches, stay_single,
+    raise_stretches, stay_single, stretches_to,
 };
 use std::alloc::{AllocError, Global};
 use std::marker::Model;
 
 /// The items of a private part. Plain lines that follow one another may stand together, as the
-/// bytes that were read; where none do, the item of a place is found at once. Their lenIV is kept.
+/// bytes that were read; where none do, the item of a place is found at once. Their lenIV is kept,
+/// what they ask of the counts of their sections, and a place behind which no section line stands.
 /// Contracts see the list of the items, with an item for each plain line.
 #[derive(Drop)]
 pub struct Items<'a> {
@@ -31,11 +42,16 @@ pub struct Items<'a> {
     len: usize,
     are_single: bool,
     lead: u8,
+    needs: Needs,
+    sections_end: usize,
 }
 
 impl<'a> Model for Items<'a> {
-    ghost use Rattle.std.specs.Prelude.{◌≡◌, List, length, true};
+    ghost use Rattle.std.specs.Prelude.{◌≡◌, ◌≤◌, List, drop, false, length, true};
+    ghost use Rattle.std.specs.List.{list_any};
     ghost use Rattle.t1_parts.specs.declared.item.Item.{Item};
+    ghost use Rattle.t1_parts.specs.Counts.{subrs_needed, glyphs_needed};
+    ghost use Rattle.t1_parts.specs.EntryKeys.{is_section};
     ghost use Rattle.t1_parts.specs.Items.{items_in, AreSingle};
     ghost use Rattle.t1_parts.specs.LenIV.{lead_among};
 
@@ -46,7 +62,12 @@ impl<'a> Model for Items<'a> {
     ghost invariant = { λ items.
         (items.len ≡ length (items_in items.stretches.items))
         × (items.are_single ≡ true → AreSingle items.stretches.items)
-        × (items.lead ≡ lead_among (items_in items.stretches.items)) };
+        × (items.lead ≡ lead_among (items_in items.stretches.items))
+        × (items.needs.subrs ≡ subrs_needed (items_in items.stretches.items))
+        × (items.needs.glyphs ≡ glyphs_needed (items_in items.stretches.items))
+        × (items.sections_end ≤ length (items_in items.stretches.items))
+        × (list_any is_section (drop items.sections_end (items_in items.stretches.items))
+        ≡ false) };
 }
 
 /// Whether an item says lenIV, or the one in whose place it comes.
@@ -87,6 +108,11 @@ impl<'a> Items<'a> {
             len: 0,
             are_single: true,
             lead: 4,
+            needs: Needs {
+                subrs: 0,
+                glyphs: 0,
+            },
+            sections_end: 0,
         }
     }
 
@@ -103,11 +129,15 @@ impl<'a> Items<'a> {
             return Err(AllocError);
         };
         let lead = lead_in(stretches.as_slice(), len);
+        let needs = needs_among(stretches.as_slice(), len);
+        let sections_end = through_last(stretches.as_slice(), len, ItemKind::Sections);
         Ok(Items {
             stretches,
             len,
             are_single,
             lead,
+            needs,
+            sections_end,
         })
     }
 
@@ -126,6 +156,23 @@ impl<'a> Items<'a> {
     {
         let Items { lead, .. } = self;
         *lead
+    }
+
+    /// What the Subrs ask of the section's count, which is kept: the highest number plus one, 0 where
+    /// there is none.
+    pub fn subrs_needed(&self) -> u64
+        ensures { result ≡ subrs_needed self.now }
+    {
+        self.needs.subrs
+    }
+
+    /// What the glyphs ask of the section's count, which is kept: their number.
+    #[tactic(auto, using(crate::proofs::NeedLaws::glyphs_within))]
+    pub fn glyphs_needed(&self) -> u64
+        ensures value { result ≡ glyphs_needed self.now }
+        ensures within { result ≤ length self.now }
+    {
+        self.needs.glyphs
     }
 
     /// The items, one after another.
@@ -158,6 +205,14 @@ impl<'a> Items<'a> {
         )
     }
 
+    /// The first of the items, behind which no section line stands.
+    pub fn through_sections(&self) -> ItemsIter<'_, 'a>
+        ensures front { result ≡ take (length result) self.now }
+        ensures none { list_any is_section (drop (length result) self.now) ≡ false }
+    {
+        self.split_at(self.sections_end).0
+    }
+
     /// None of the items.
     pub fn none(&self) -> ItemsIter<'_, 'a>
         ensures { result ≡ [] }
@@ -184,6 +239,8 @@ impl<'a> Items<'a> {
             len,
             are_single: self.are_single,
             lead,
+            needs: self.needs,
+            sections_end: self.sections_end,
         })
     }
 
@@ -219,6 +276,34 @@ impl<'a> Items<'a> {
         }
     }
 
+    /// Where the entry of a key stands. Lines that stand together are passed over as a whole.
+    pub fn entry_place(&self, key: &EntryKey) -> Option<usize>
+        ensures value { result ≡ position (is_entry_of key.now) self.now }
+        ensures within { IfSome result (λ at. at < length self.now) }
+    {
+        let _len = self.len();
+        place_of_entry(self.stretches.as_slice(), key)
+    }
+
+    /// The place of the entry of a key, where it is one of the few items before an end and each
+    /// stretch is known to be one item. Else nothing is said.
+    pub fn entry_before(&self, end: usize, key: &EntryKey) -> Option<usize>
+        ensures { IfSome result (IsEntryAt key.now self.now) }
+    {
+        if !self.are_single {
+            return None;
+        }
+        let stretches = self.stretches.as_slice();
+        entry_before(stretches, end.min(stretches.len()), key)
+    }
+
+    /// How many items stand through the last one of a kind. They are gone over from the end.
+    pub fn through_last(&self, kind: ItemKind) -> usize
+        ensures { IsThrough (is_of_kind kind) self.now result }
+    {
+        through_last(self.stretches.as_slice(), self.len, kind)
+    }
+
     /// Adds a stretch at the end. Where memory runs out, nothing has changed.
     pub(crate) fn push_stretch(&mut self, stretch: Stretch<'a>) -> Result<(), AllocError>
         ensures ok { OnOk result (self.new ≡ self.old ++ stretch_items stretch.entry) }
@@ -230,9 +315,13 @@ impl<'a> Items<'a> {
         };
         let are_single = stay_single(self.are_single, &stretch);
         let is_said = stretch.saying().is_some();
+        let more = needs_of_stretch(&stretch);
+        let sections_end = end_pushed(self.sections_end, len, &stretch);
         self.stretches.push(stretch)?;
         self.len = len;
         self.are_single = are_single;
+        self.needs = together(self.needs, more);
+        self.sections_end = sections_end;
         self.lead = lead_after(self.stretches.as_slice(), len, self.lead, is_said);
         Ok(())
     }
@@ -256,6 +345,8 @@ impl<'a> Items<'a> {
             return Err(AllocError);
         };
         let is_said = says_lead(&item);
+        let more = needs_of(&item);
+        let sections_end = end_inserted(self.sections_end, at, &item);
         let index = match cut_before(&mut self.stretches, at, self.are_single) {
             Ok(index) => index,
             Err(error) => {
@@ -265,6 +356,8 @@ impl<'a> Items<'a> {
         };
         insert_stretch(&mut self.stretches, index, Stretch::One(item))?;
         self.len = len;
+        self.needs = together(self.needs, more);
+        self.sections_end = sections_end;
         self.lead = lead_after(self.stretches.as_slice(), len, self.lead, is_said);
         Ok(())
     }
@@ -277,11 +370,15 @@ impl<'a> Items<'a> {
         ensures err { OnErr result (self.new ≡ self.old) }
         ensures still { StandsAloneAt self.old at → IsOk result }
     {
-        let is_said = self.item(at).says_lead();
+        let item = self.item(at);
+        let is_said = item.says_lead();
+        let gone = needs_there(&item);
         let index = cut_before(&mut self.stretches, at, self.are_single)?;
         drop_first(&mut self.stretches, index);
         let len = self.len - 1;
         self.len = len;
+        self.needs = needs_without(self.stretches.as_slice(), len, self.needs, gone);
+        self.sections_end = end_removed(self.sections_end, at);
         self.lead = lead_after(self.stretches.as_slice(), len, self.lead, is_said);
         Ok(())
     }
@@ -294,7 +391,11 @@ impl<'a> Items<'a> {
         ensures err { OnErr result (self.new ≡ self.old) }
         ensures still { StandsAloneAt self.old at → IsOk result }
     {
-        let is_said = says_either(&self.item(at), &item);
+        let _len = self.len();
+        let old = self.item(at);
+        let is_said = says_either(&old, &item);
+        let is_same = ask_the_same(&old, &item);
+        let sections_end = end_put(self.sections_end, at, &item);
         let index = match cut_before(&mut self.stretches, at, self.are_single) {
             Ok(index) => index,
             Err(error) => {
@@ -303,6 +404,8 @@ impl<'a> Items<'a> {
             }
         };
         put_first(&mut self.stretches, index, item)?;
+        self.needs = needs_after(self.stretches.as_slice(), self.len, self.needs, is_same);
+        self.sections_end = sections_end;
         self.lead = lead_after(self.stretches.as_slice(), self.len, self.lead, is_said);
         Ok(())
     }
@@ -311,6 +414,11 @@ impl<'a> Items<'a> {
     pub(crate) fn raise_counts(&mut self, subrs: u64, glyphs: u64)
         ensures { self.new ≡ map (raised_item subrs glyphs) self.old }
     {
-        raise_stretches(&mut self.stretches, subrs, glyphs);
+        let end = stretches_to(
+            self.stretches.as_slice(),
+            self.sections_end,
+            self.are_single,
+        );
+        raise_stretches(&mut self.stretches, end, subrs, glyphs);
     }
 }

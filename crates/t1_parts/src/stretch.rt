@@ -2,8 +2,9 @@
 
 ghost use Rattle.std.specs.Prelude.{◌≡◌, ◌<◌, ◌∷◌, [], ℕ, filter, IfOk, MatchOption, None, true};
 ghost use Rattle.std.specs.Prelude.{length, take, drop, false};
-ghost use Rattle.std.specs.List.{find, slice_index_or};
+ghost use Rattle.std.specs.List.{find, list_any, slice_index_or};
 ghost use Rattle.t1_parts.specs.declared.stretch.Stretch.TheVariants as stretches;
+ghost use Rattle.t1_parts.specs.EntryKeys.{is_entry_of, is_of_kind};
 ghost use Rattle.t1_parts.specs.LenIV.{says_lead};
 ghost use Rattle.t1_parts.specs.declared.item.Item.{Item};
 ghost use Rattle.t1_parts.specs.Items.{line_items, raised_stretch, stretch_items, stands_alone};
@@ -11,6 +12,7 @@ ghost use Rattle.t1_parts.specs.ItemRefs.{item_of};
 
 use crate::alone_items::stands_alone;
 use crate::counts::raise_item;
+use crate::entry_key::{EntryKey, ItemKind};
 use crate::item::Item;
 use crate::item_ref::ItemRef;
 use crate::len_iv::says_lead;
@@ -77,6 +79,31 @@ impl<'a> Stretch<'a> {
                 let _len = plain.len();
                 None
             }
+        }
+    }
+
+    /// The item, where it is the entry of a key.
+    pub(crate) fn entry_of(&self, key: &EntryKey) -> Option<&Item<'a>>
+        ensures { MatchOption result
+            (list_any (is_entry_of key.now) (stretch_items self.now) ≡ false)
+            (λ item.
+            (self.now ≡ stretches.One item.now) × (is_entry_of key.now item.now ≡ true)) }
+    {
+        match self {
+            Stretch::One(item) => { if key.is_of(item) { Some(item) } else { None } }
+            Stretch::Lines(_plain) => None,
+        }
+    }
+
+    /// The item, where it is of a kind.
+    pub(crate) fn of_kind(&self, kind: ItemKind) -> Option<&Item<'a>>
+        ensures { MatchOption result
+            (list_any (is_of_kind kind) (stretch_items self.now) ≡ false)
+            (λ item. (self.now ≡ stretches.One item.now) × (is_of_kind kind item.now ≡ true)) }
+    {
+        match self {
+            Stretch::One(item) => { if kind.has(item) { Some(item) } else { None } }
+            Stretch::Lines(_plain) => None,
         }
     }
 

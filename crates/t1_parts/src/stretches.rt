@@ -199,11 +199,30 @@ pub(crate) fn put_first<'a>(
     Ok(())
 }
 
-/// Raises the counts of the section lines among some stretches.
-pub(crate) fn raise_stretches(stretches: &mut Vec<Stretch>, subrs: u64, glyphs: u64)
-    ensures { stretches.new.items ≡ map (raised_stretch subrs glyphs) stretches.old.items }
+/// How many stretches have the first items up to a place. Where each stretch is known to be one item
+/// none is looked at.
+pub(crate) fn stretches_to(stretches: &[Stretch], at: usize, are_single: bool) -> usize
+    requires within { at ≤ length (items_in stretches.now) }
+    requires single { are_single ≡ true → AreSingle stretches.now }
+    ensures within { result ≤ length stretches.now }
+    ensures covered { at ≤ length (items_in (take result stretches.now)) }
 {
-    for stretch in stretches.iter_mut() {
+    let (index, offset) = place_of(stretches, at, are_single);
+    if offset == 0 {
+        return index;
+    }
+    index + 1
+}
+
+/// Raises the counts of the section lines among the first of some stretches.
+pub(crate) fn raise_stretches(stretches: &mut Vec<Stretch>, end: usize, subrs: u64, glyphs: u64)
+    requires { end ≤ length stretches.old.items }
+    ensures { stretches.new.items
+        ≡ map (raised_stretch subrs glyphs) (take end stretches.old.items)
+        ++ drop end stretches.old.items }
+{
+    for index in 0..end {
+        let stretch = &mut stretches[index];
         stretch.raise_count(subrs, glyphs);
     }
 }

@@ -91,7 +91,9 @@ use t1_code::{Counted, OutError, Pfa, Pfb, WHOLE_PARTS};
 use t1_commands::{Answer, PfaData, PfbData, Print, Show, block_size, put_answer};
 use t1_font::{MeasuredGlyphs, afm_of_source, usage_text, write_source_afm};
 use t1_frac::{Bytes, Refusal};
-use t1_held::{EditedEntry, Edits, held_metrics, held_of, prepare_edits, settle, write_held_file};
+use t1_held::{
+    EditedEntry, Edits, held_metrics, held_of, place_near, prepare_edits, settle, write_held_file,
+};
 use t1_outline::glyph_outline;
 use t1_outline::laws::a_source_shows_its_outlines;
 use t1_pairs::laws::text_of_pairs_read;
@@ -289,10 +291,11 @@ impl<'a> Session<'a> {
         ensures runs { RerunsByTest (edition self.old.state (commands.Edit edit.now)) self.old
             result self.new }
     {
+        let near = place_near(&self.held, self.source.items().len(), edit);
         if let Some(batch) = &mut self.batch {
-            return batch.edit(self.alloc, edit);
+            return batch.edit(self.alloc, edit, near);
         }
-        let change = self.source.prepared(&self.pairs, edit)?;
+        let change = self.source.prepared_near(&self.pairs, edit, near)?;
         self.make(edit, change)
     }
 

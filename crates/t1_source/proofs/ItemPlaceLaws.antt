@@ -1,5 +1,5 @@
 -- Lists around an element at a place that was found.
-use Rattle.std.proofs.Common.{◌≡◌, ◌⊎◌, ℕ, suc, Bool, true, false, ◌||◌, ◌+◌, ◌-◌, ◌<◌, ◌≤◌, nat_lt, if◌then◌else◌, unwrap_or, Option, None, Some, List, [], ◌∷◌, ◌++◌, length, take, drop, set, get_or, reverse, filter_map, refl, sym, ◌∙◌, ap, inl, inr, arith, append_assoc, length-append}
+use Rattle.std.proofs.Common.{◌≡◌, ◌⊎◌, ℕ, suc, Bool, true, false, ◌||◌, ◌+◌, ◌-◌, ◌<◌, ◌≤◌, nat_lt, unwrap_or, Option, None, Some, List, [], ◌∷◌, ◌++◌, length, take, drop, set, get_or, reverse, filter_map, refl, sym, ◌∙◌, ap, inl, inr, arith, append_assoc, length-append}
 use Rattle.std.specs.List.{list_any, position, position_or_len, insert, remove, cons_option}
 use Rattle.std.proofs.lemmas.Bool.{cases_Bool, ltb-true, ltb-false, or_parts, both_ways, or_from}
 use Rattle.std.proofs.lemmas.List.{reverse-append, length-reverse}
@@ -204,14 +204,8 @@ before_last test (y ∷ xs) last (c ∷ a) x b off on e =
     let r = before_last test xs last a x b off on rest in
     (r.0, r.1, ap (λ t. t ∷ xs) same ∙ ap (λ t. c ∷ t) r.2)
 
--- ---- the last one, found from the front
+-- ---- where none passes a test
 
--- how many elements stand through the last one that passes a test, where so many were passed, the last one that passed it among them
-abbrev pub through_from : {X : Type 0} → (X → Bool) → ℕ → ℕ → List X → ℕ
-through_from test last passed [] = last
-through_from test last passed (x ∷ xs) = through_from test (if test x then passed + 1 else last) (passed + 1) xs
-
--- a test that none passes
 none_place : {X : Type 0} (test : X → Bool) (xs : List X) → list_any test xs ≡ false → position_or_len test xs ≡ length xs
 none_place test [] h = refl
 none_place test (x ∷ xs) h =
@@ -220,57 +214,8 @@ none_place test (x ∷ xs) h =
     let step : position_or_len test (x ∷ xs) ≡ 1 + position_or_len test xs = rw parts.0 refl in
     omega (arith, step, more)
 
-none_through : {X : Type 0} (test : X → Bool) (xs : List X) → list_any test xs ≡ false → through_last test xs ≡ 0
+pub none_through : {X : Type 0} (test : X → Bool) (xs : List X) → list_any test xs ≡ false → through_last test xs ≡ 0
 unfolding through_last
 none_through test xs h =
     let place = none_place test (reverse xs) (any_turned test xs h) ∙ length-reverse xs in
     omega (arith, place)
-
--- one more in front
-later_through : {X : Type 0} (test : X → Bool) (x : X) (xs : List X) → list_any test xs ≡ true → through_last test (x ∷ xs) ≡ 1 + through_last test xs
-later_through test x xs h =
-    let r = last_of test xs h in
-    let a = r.found.before in
-    let i = r.found.here in
-    let b = r.found.after in
-    let less = ap (through_last test) r.found.whole ∙ through_place test a i b r.found.passes r.none in
-    let more = ap (λ t. through_last test (x ∷ t)) r.found.whole ∙ through_place test (x ∷ a) i b r.found.passes r.none in
-    omega (arith, less, more)
-
-none_from : {X : Type 0} (test : X → Bool) (xs : List X) (last passed : ℕ) → list_any test xs ≡ false → through_from test last passed xs ≡ last
-none_from test [] last passed h = refl
-none_from test (x ∷ xs) last passed h =
-    let parts = or_parts (test x) (list_any test xs) h in
-    rw parts.0 (none_from test xs last (passed + 1) parts.1)
-
-found_from : {X : Type 0} (test : X → Bool) (xs : List X) (last passed : ℕ) → list_any test xs ≡ true → through_from test last passed xs ≡ passed + through_last test xs
-found_from test [] last passed h = cc
-found_from test (x ∷ xs) last passed h =
-    elim (cases_Bool (list_any test xs)) [
-      | inl later ↦
-          let more = found_from test xs (if test x then passed + 1 else last) (passed + 1) later in
-          let step = later_through test x xs later in
-          more ∙ (omega (arith, step))
-      | inr none ↦
-          let on : test x ≡ true = passes_alone (test x) (list_any test xs) h none in
-          let here : through_last test (x ∷ xs) ≡ 1 = through_place test [] x xs on none in
-          let rest = none_from test xs (if test x then passed + 1 else last) (passed + 1) none in
-          let this : (if test x then passed + 1 else last) ≡ passed + 1 = rw on refl in
-          rest ∙ this ∙ (omega (arith, here))
-    ]
-  where
-    passes_alone : (b c : Bool) → (b || c) ≡ true → c ≡ false → b ≡ true
-    passes_alone true c h k = refl
-    passes_alone false c h k = cc
-
--- from the first element on
-pub through_counted : {X : Type 0} (test : X → Bool) (xs : List X) → through_from test 0 0 xs ≡ through_last test xs
-through_counted test xs =
-    elim (cases_Bool (list_any test xs)) [
-      | inl some ↦ (let same : 0 + through_last test xs ≡ through_last test xs = omega arith in found_from test xs 0 0 some ∙ same)
-      | inr none ↦ none_from test xs 0 0 none ∙ sym (none_through test xs none)
-    ]
-
-pub through_within : {X : Type 0} (test : X → Bool) (xs : List X) → through_last test xs ≤ length xs
-unfolding through_last
-through_within test xs = omega arith

@@ -5,6 +5,7 @@ pub mod CountedLaws
 pub mod EditedCountLaws
 pub mod EditedLeadLaws
 pub mod EditingRows
+pub mod EntryFoundLaws
 pub mod ItemPlaceLaws
 pub mod ItemsAgainLaws
 pub mod LeadEditLaws

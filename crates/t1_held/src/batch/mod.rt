@@ -89,12 +89,13 @@ impl<'a> Batch<'a> {
     }
 
     /// Makes an edit and notes its entry, or answers the first edit rule that it breaks and changes
-    /// nothing, as where memory runs out. No glyph is run.
-    pub fn edit(&mut self, alloc: Global, edit: &Edit) -> Result<(), Cause>
+    /// nothing, as where memory runs out. No glyph is run. An entry that the edit replaces or takes
+    /// out is looked for first among the few items before a place.
+    pub fn edit(&mut self, alloc: Global, edit: &Edit, near: usize) -> Result<(), Cause>
         ensures edited { Drafts self.old edit.now result self.new }
         ensures draft { (s : SourceParts) → IsDraftOf s self.old → IsDraftOf s self.new }
     {
-        let change = self.source.prepared(&self.pairs, edit)?;
+        let change = self.source.prepared_near(&self.pairs, edit, near)?;
         match entry_with_room(alloc, &mut self.entries, edit) {
             Ok(entry) => {
                 self.source.commit(&mut self.pairs, change)?;

@@ -224,12 +224,16 @@ fn recorded_name_taken_out<'a>(records: &Records, step: &'a Step) -> Option<&'a 
     Some(name)
 }
 
-/// The names of the glyphs with a record that steps take out of their places. They save time alone:
-/// a step takes out its glyph where that is still there.
+/// The names of the glyphs with a record that steps take out of their places, where there are
+/// several steps. They save time alone: a step takes out its glyph where that is still there, and
+/// for one glyph that takes less time than a pass over all.
 pub fn taken_out(alloc: Global, records: &Records, steps: &[Step]) -> Result<Names, AllocError>
     ensures { IfOk result (λ names. AreTakenOut names.keys steps.now) }
 {
     let mut names = IndexSet::new(alloc);
+    if steps.len() < 2 {
+        return Ok(names);
+    }
     for step in steps {
         let Some(name) = recorded_name_taken_out(records, step) else {
             continue;

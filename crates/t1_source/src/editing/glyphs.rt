@@ -5,7 +5,6 @@ ghost use Rattle.std.specs.List.{find, list_any, position};
 ghost use Rattle.t1_parts.specs.declared.item.Item.TheVariants.{Glyph};
 ghost use Rattle.t1_parts.specs.Counts.{is_glyph_entry};
 ghost use Rattle.t1_parts.specs.Entries.{is_glyph};
-ghost use Rattle.t1_parts.specs.ItemRefs.{item_of};
 ghost use Rattle.t1_source.specs.Changes.{changed, Fits};
 ghost use Rattle.t1_source.specs.Editing.{Edits, added_glyph, among_glyphs_items, beside_pairs};
 ghost use Rattle.t1_source.specs.Editing.{body_words, closing_among, removed_glyph, replaced_glyph};
@@ -15,48 +14,27 @@ ghost use Rattle.t1_pairs.specs.declared.pairs.Pair.{Pair};
 use crate::edit::{Cause, Rule};
 use crate::editing::change::Change;
 use crate::editing::entries::{closing_at, closing_of};
+use crate::editing::places::{entry_at, has_entry, through_kind};
 use crate::editing::rules::{body_words, good_body, good_name, keeps};
 use crate::source::Source;
 use std::alloc::{AllocError, Global};
 use t1_frac::SourceText;
-use t1_parts::{Item, ItemRef, Items, is_glyphs_line};
-use t1_text::same;
+use t1_parts::{EntryKey, Item, ItemKind, Items};
 
-/// Whether an item is the glyph of this name.
-fn is_glyph(name: &[u8], item: &Item) -> bool
-    ensures { result ≡ is_glyph name.now item.now }
+/// Where the glyph of this name stands, which is looked for first among the few items before a
+/// place.
+fn glyph_at(source: &Source, near: usize, name: &[u8]) -> Option<usize>
+    ensures value { result ≡ position (is_glyph name.now) source.now.items }
+    ensures within { IfSome result (λ at. at < length source.now.items) }
 {
-    match item {
-        Item::Glyph(other, _, _) => same(name, other.as_slice()),
-        _ => false,
-    }
-}
-
-/// Whether an item is the glyph of this name, where it stands.
-fn is_glyph_there(name: &[u8], item: &ItemRef) -> bool
-    ensures { result ≡ is_glyph name.now (item_of item.now) }
-{
-    match item {
-        ItemRef::Line(_line) => false,
-        ItemRef::Item(item) => is_glyph(name, item),
-    }
-}
-
-/// Where the glyph of this name stands.
-fn glyph_at(items: &Items, name: &[u8]) -> Option<usize>
-    ensures value { result ≡ position (is_glyph name.now) items.now }
-    ensures within { IfSome result (λ at. at < length items.now) }
-{
-    let mut left = items.iter();
-    left.position(|item| is_glyph_there(name, &item))
+    entry_at(source, near, &EntryKey::Name(name))
 }
 
 /// Whether the glyph of this name is there.
 fn has_glyph(items: &Items, name: &[u8]) -> bool
     ensures { result ≡ list_any (is_glyph name.now) items.now }
 {
-    let mut alone = items.iter().alone();
-    alone.any(|item| is_glyph(name, item))
+    has_entry(items, &EntryKey::Name(name))
 }
 
 /// Whether an item is a glyph.
@@ -87,39 +65,12 @@ fn glyph_closing<'i>(items: &'i Items) -> &'i [u8]
     }
 }
 
-/// Whether an item is a glyph or the CharStrings line.
-#[tactic(auto, unfolding(crate::specs::Editing::among_glyphs_items))]
-fn among_glyphs(item: &Item) -> bool
-    ensures { result ≡ among_glyphs_items item.now }
-{
-    is_glyph_entry(item) || is_glyphs_line(item)
-}
-
-/// Whether an item is a glyph or the CharStrings line, where it stands.
-#[tactic(auto, unfolding(crate::specs::Editing::among_glyphs_items))]
-fn among_glyphs_there(item: &ItemRef) -> bool
-    ensures { result ≡ among_glyphs_items (item_of item.now) }
-{
-    match item {
-        ItemRef::Line(_line) => false,
-        ItemRef::Item(item) => among_glyphs(item),
-    }
-}
-
 /// How many items stand through the last glyph, or the CharStrings line.
 fn through_glyphs(items: &Items) -> usize
     ensures within { result ≤ length items.now }
     ensures value { result ≡ through_last among_glyphs_items items.now }
 {
-    let mut last = 0;
-    let mut passed = 0;
-    for item in items.iter() {
-        passed += 1;
-        if among_glyphs_there(&item) {
-            last = passed;
-        }
-    }
-    last
+    through_kind(items, ItemKind::Glyphs)
 }
 
 /// The glyph of a name and a body, with a closing text.
@@ -137,10 +88,11 @@ fn glyph_of<'a>(
     Ok(Item::Glyph(name, words, closing))
 }
 
-/// A glyph with another body.
+/// A glyph with another body, which is looked for first among the few items before a place.
 #[tactic(auto, unfolding(crate::specs::Editing::replaced_glyph))]
 pub fn replacing_glyph<'a>(
     source: &Source<'a>,
+    near: usize,
     name: &[u8],
     body: &[u8],
 ) -> Result<Change<'a>, Cause>
@@ -151,7 +103,7 @@ pub fn replacing_glyph<'a>(
 {
     good_name(name)?;
     good_body(body)?;
-    let Some(at) = glyph_at(source.items(), name) else {
+    let Some(at) = glyph_at(source, near, name) else {
         return Err(Cause::Rule(Rule::E1));
     };
     let closing = closing_at(at, source.items());
@@ -175,16 +127,20 @@ pub fn adding_glyph<'a>(source: &Source<'a>, name: &[u8], body: &[u8]) -> Result
     Ok(Change::InsertItem(through_glyphs(source.items()), glyph))
 }
 
-/// A glyph taken out.
+/// A glyph taken out, which is looked for first among the few items before a place.
 #[tactic(auto, unfolding(crate::specs::Editing::removed_glyph))]
-pub fn removing_glyph<'a>(source: &Source<'a>, name: &[u8]) -> Result<Change<'a>, Cause>
+pub fn removing_glyph<'a>(
+    source: &Source<'a>,
+    near: usize,
+    name: &[u8],
+) -> Result<Change<'a>, Cause>
     ensures change { (k : List Pair)
         → Edits (λ change. changed change source.now k) result
         (beside_pairs k (removed_glyph source.now name.now)) }
     ensures fits { (k : List Pair) → IfOk result (λ change. Fits change source.now k) }
 {
     good_name(name)?;
-    let Some(at) = glyph_at(source.items(), name) else {
+    let Some(at) = glyph_at(source, near, name) else {
         return Err(Cause::Rule(Rule::E1));
     };
     Ok(Change::RemoveItem(at))

@@ -6,6 +6,7 @@ mod entries;
 mod glyphs;
 mod kerning;
 mod leads;
+mod places;
 mod rules;
 mod slots;
 mod subrs;
@@ -54,22 +55,23 @@ fn committed<'a>(
 }
 
 impl<'a> Source<'a> {
-    /// What an edit changes, or the first rule that it breaks.
+    /// What an edit changes, or the first rule that it breaks. An entry that it replaces or takes
+    /// out is looked for first among the few items before a place.
     #[tactic(auto, unfolding(crate::specs::Editing::edited))]
-    fn found_change(&self, pairs: &Pairs, edit: &Edit) -> Result<Change<'a>, Cause>
+    fn found_change(&self, pairs: &Pairs, edit: &Edit, near: usize) -> Result<Change<'a>, Cause>
         ensures change { Edits (λ change. changed change self.now pairs.now) result
             (edited self.now pairs.now edit.now) }
         ensures fits { IfOk result (λ change. Fits change self.now pairs.now) }
     {
         match edit {
             Edit::ReplaceGlyph(name, body) => {
-                replacing_glyph(self, name.as_slice(), body.as_slice())
+                replacing_glyph(self, near, name.as_slice(), body.as_slice())
             }
             Edit::AddGlyph(name, body) => adding_glyph(self, name.as_slice(), body.as_slice()),
-            Edit::RemoveGlyph(name) => removing_glyph(self, name.as_slice()),
-            Edit::ReplaceSubr(number, body) => replacing_subr(self, *number, body.as_slice()),
+            Edit::RemoveGlyph(name) => removing_glyph(self, near, name.as_slice()),
+            Edit::ReplaceSubr(number, body) => replacing_subr(self, near, *number, body.as_slice()),
             Edit::AddSubr(number, body) => adding_subr(self, *number, body.as_slice()),
-            Edit::RemoveSubr(number) => removing_subr(self, *number),
+            Edit::RemoveSubr(number) => removing_subr(self, near, *number),
             Edit::Encode(code, name) => encoding_code(self, *code, name.as_slice()),
             Edit::Unencode(code) => unencoding_code(self, *code),
             Edit::LenIv(number) => putting_lead(self, *number),
@@ -87,9 +89,24 @@ impl<'a> Source<'a> {
             (edited self.now pairs.now edit.now) }
         ensures serves { IfOk result (λ change. Serves change self.now pairs.now) }
     {
+        self.prepared_near(pairs, edit, 0)
+    }
+
+    /// What `prepared` gives. An entry that the edit replaces or takes out is looked for first
+    /// among the few items before a place, and the others are gone over only where it isn't there.
+    pub fn prepared_near(
+        &self,
+        pairs: &Pairs,
+        edit: &Edit,
+        near: usize,
+    ) -> Result<Change<'a>, Cause>
+        ensures change { Edits (λ change. changed change self.now pairs.now) result
+            (edited self.now pairs.now edit.now) }
+        ensures serves { IfOk result (λ change. Serves change self.now pairs.now) }
+    {
         let _items = self.kept_items();
         let _count = pairs.len();
-        let change = self.found_change(pairs, edit)?;
+        let change = self.found_change(pairs, edit, near)?;
         Ok(change)
     }
 

@@ -4,7 +4,6 @@ ghost use Rattle.std.specs.Prelude.{◌≡◌, ◌≤◌, ◌<◌, List, length,
 ghost use Rattle.std.specs.List.{find, list_any, position};
 ghost use Rattle.t1_parts.specs.declared.item.Item.TheVariants.{Subr};
 ghost use Rattle.t1_parts.specs.Entries.{is_subr};
-ghost use Rattle.t1_parts.specs.ItemRefs.{item_of};
 ghost use Rattle.t1_parts.specs.Sections.{is_subrs_line};
 ghost use Rattle.t1_source.specs.Changes.{changed, Fits};
 ghost use Rattle.t1_source.specs.Editing.{Edits, added_subr, among_subrs_items, beside_pairs};
@@ -15,47 +14,27 @@ ghost use Rattle.t1_pairs.specs.declared.pairs.Pair.{Pair};
 use crate::edit::{Cause, Rule};
 use crate::editing::change::Change;
 use crate::editing::entries::{closing_at, closing_of};
+use crate::editing::places::{entry_at, has_entry, through_kind};
 use crate::editing::rules::{body_words, good_body, keeps, number_up_to};
 use crate::source::Source;
 use std::alloc::{AllocError, Global};
 use t1_frac::SourceText;
-use t1_parts::{Item, ItemRef, Items, is_subrs_line};
+use t1_parts::{EntryKey, Item, ItemKind, Items, is_subrs_line};
 
-/// Whether an item is the Subr of this number.
-fn is_subr(number: u16, item: &Item) -> bool
-    ensures { result ≡ is_subr number item.now }
+/// Where the Subr of this number stands, which is looked for first among the few items before a
+/// place.
+fn subr_at(source: &Source, near: usize, number: u16) -> Option<usize>
+    ensures value { result ≡ position (is_subr number) source.now.items }
+    ensures within { IfSome result (λ at. at < length source.now.items) }
 {
-    match item {
-        Item::Subr(other, _, _) => number == *other,
-        _ => false,
-    }
-}
-
-/// Whether an item is the Subr of this number, where it stands.
-fn is_subr_there(number: u16, item: &ItemRef) -> bool
-    ensures { result ≡ is_subr number (item_of item.now) }
-{
-    match item {
-        ItemRef::Line(_line) => false,
-        ItemRef::Item(item) => is_subr(number, item),
-    }
-}
-
-/// Where the Subr of this number stands.
-fn subr_at(items: &Items, number: u16) -> Option<usize>
-    ensures value { result ≡ position (is_subr number) items.now }
-    ensures within { IfSome result (λ at. at < length items.now) }
-{
-    let mut left = items.iter();
-    left.position(|item| is_subr_there(number, &item))
+    entry_at(source, near, &EntryKey::Number(number))
 }
 
 /// Whether the Subr of this number is there.
 fn has_subr(items: &Items, number: u16) -> bool
     ensures { result ≡ list_any (is_subr number) items.now }
 {
-    let mut alone = items.iter().alone();
-    alone.any(|item| is_subr(number, item))
+    has_entry(items, &EntryKey::Number(number))
 }
 
 /// Whether an item is a Subr.
@@ -86,39 +65,12 @@ fn subr_closing<'i>(items: &'i Items) -> &'i [u8]
     }
 }
 
-/// Whether an item is a Subr or the Subrs line.
-#[tactic(auto, unfolding(crate::specs::Editing::among_subrs_items))]
-fn among_subrs(item: &Item) -> bool
-    ensures { result ≡ among_subrs_items item.now }
-{
-    is_subr_entry(item) || is_subrs_line(item)
-}
-
-/// Whether an item is a Subr or the Subrs line, where it stands.
-#[tactic(auto, unfolding(crate::specs::Editing::among_subrs_items))]
-fn among_subrs_there(item: &ItemRef) -> bool
-    ensures { result ≡ among_subrs_items (item_of item.now) }
-{
-    match item {
-        ItemRef::Line(_line) => false,
-        ItemRef::Item(item) => among_subrs(item),
-    }
-}
-
 /// How many items stand through the last Subr, or the Subrs line.
 fn through_subrs(items: &Items) -> usize
     ensures within { result ≤ length items.now }
     ensures value { result ≡ through_last among_subrs_items items.now }
 {
-    let mut last = 0;
-    let mut passed = 0;
-    for item in items.iter() {
-        passed += 1;
-        if among_subrs_there(&item) {
-            last = passed;
-        }
-    }
-    last
+    through_kind(items, ItemKind::Subrs)
 }
 
 /// Whether one of the items is the Subrs line.
@@ -150,10 +102,11 @@ fn subr_of<'a>(
     Ok(Item::Subr(number, words, closing))
 }
 
-/// A Subr with another body.
+/// A Subr with another body, which is looked for first among the few items before a place.
 #[tactic(auto, unfolding(crate::specs::Editing::replaced_subr))]
 pub fn replacing_subr<'a>(
     source: &Source<'a>,
+    near: usize,
     number: i64,
     body: &[u8],
 ) -> Result<Change<'a>, Cause>
@@ -165,7 +118,7 @@ pub fn replacing_subr<'a>(
     let number = number_up_to(32000, number)?;
     good_body(body)?;
     has_section(source)?;
-    let Some(at) = subr_at(source.items(), number) else {
+    let Some(at) = subr_at(source, near, number) else {
         return Err(Cause::Rule(Rule::E1));
     };
     let closing = closing_at(at, source.items());
@@ -190,9 +143,9 @@ pub fn adding_subr<'a>(source: &Source<'a>, number: i64, body: &[u8]) -> Result<
     Ok(Change::InsertItem(through_subrs(source.items()), subr))
 }
 
-/// A Subr taken out.
+/// A Subr taken out, which is looked for first among the few items before a place.
 #[tactic(auto, unfolding(crate::specs::Editing::removed_subr))]
-pub fn removing_subr<'a>(source: &Source<'a>, number: i64) -> Result<Change<'a>, Cause>
+pub fn removing_subr<'a>(source: &Source<'a>, near: usize, number: i64) -> Result<Change<'a>, Cause>
     ensures change { (k : List Pair)
         → Edits (λ change. changed change source.now k) result
         (beside_pairs k (removed_subr source.now number)) }
@@ -200,7 +153,7 @@ pub fn removing_subr<'a>(source: &Source<'a>, number: i64) -> Result<Change<'a>,
 {
     let number = number_up_to(32000, number)?;
     has_section(source)?;
-    let Some(at) = subr_at(source.items(), number) else {
+    let Some(at) = subr_at(source, near, number) else {
         return Err(Cause::Rule(Rule::E1));
     };
     Ok(Change::RemoveItem(at))

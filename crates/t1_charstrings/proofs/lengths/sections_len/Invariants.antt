@@ -1,5 +1,4 @@
-use Rattle.std.proofs.Common.{◌≡◌, ◌<◌, ◌+◌, ◌^◌, ◌-◌, min, length, filter}
-use Rattle.t1_parts.specs.Items.{stands_alone}
+use Rattle.std.proofs.Common.{◌≡◌, ◌<◌, ◌+◌, ◌^◌, ◌-◌, min, length}
 use Rattle.t1_charstrings.specs.Sums.{section_lines_text}
 use Rattle.t1_charstrings.proofs.lengths.sections_len.Given as goal
 
@@ -8,4 +7,4 @@ abbrev pub invariant-loop-item : goal.invariant-loop-item
 invariant-loop-item l =
     (goal.iterator-loop-item).can_next l.item-iterator × (goal.iterator-loop-item).is_finite l.item-iterator
     × (l.total < 2 ^ 64)
-    × (min (l.total + length (section_lines_text l.item-iterator)) (2 ^ 64 - 1) ≡ min (length (section_lines_text (filter stands_alone l.items))) (2 ^ 64 - 1))
+    × (min (l.total + length (section_lines_text l.item-iterator)) (2 ^ 64 - 1) ≡ min (length (section_lines_text l.items)) (2 ^ 64 - 1))

@@ -35,8 +35,8 @@ returns-in_err-check_parts-clause-judged c =
     let p = err_from_is_err_and c.from_residual.result c.from_residual.ensures.1 in
     rw (p.1, p.2) (length_refused made c.in_err-check_parts.field-0.0 (sym (c.in_err-check_parts.ensures made (sym c.clear.ensures) (sym c.tail.ensures) known)))
 
-pub returns-in_err-check_raised-clause-judged : goal.returns-in_err-check_raised-clause-judged
-returns-in_err-check_raised-clause-judged c =
+pub returns-in_err-check_raised_sections-clause-judged : goal.returns-in_err-check_raised_sections-clause-judged
+returns-in_err-check_raised_sections-clause-judged c =
     let s = c.args.source.now in
     let item = c.args.item.now in
     let kept = c.args.charstrings.now in
@@ -50,12 +50,12 @@ returns-in_err-check_raised-clause-judged c =
     let known : IsPrivateLen made c.inserted_len-len.result =
     insert_known s kept c.args.at item need.well need.within edit.kept needed.subrs needed.glyphs subrs_are glyphs_are need.edits.keys c.args.entries.now.fresh edit
     (fresh_by need.edits front) need.entry c.args.private_len c.inserted_len-len.result need.len need.file c.inserted_len-len.ensures in
-    let counts : counts_check made.items ≡ raised_check needed.subrs needed.glyphs c.iter.result =
+    let counts : counts_check made.items ≡ raised_check needed.subrs needed.glyphs c.items-2.result.now =
     insert_counts s kept c.args.at item need.well need.within edit.kept needed.subrs needed.glyphs subrs_are glyphs_are need.entry edit.sound
-    ∙ ap (raised_check needed.subrs needed.glyphs) (sym (c.iter.ensures.items ∙ c.items-2.ensures)) in
+    ∙ ap (raised_check needed.subrs needed.glyphs) (sym c.items-2.ensures) in
     let short = sym (c.in_ok-check_parts.ensures made (sym c.clear.ensures) (sym c.tail.ensures) known) in
-    let p = err_from_is_err_and c.from_residual-in_err-check_raised.result c.from_residual-in_err-check_raised.ensures.1 in
-    rw (p.1, p.2) (counts_refused made c.in_err-check_raised.field-0.0 short (counts ∙ sym c.in_err-check_raised.ensures))
+    let p = err_from_is_err_and c.from_residual-in_err-check_raised_sections.result c.from_residual-in_err-check_raised_sections.ensures.1 in
+    rw (p.1, p.2) (counts_refused made c.in_err-check_raised_sections.field-0.0 short (counts ∙ sym c.in_err-check_raised_sections.ensures))
 
 pub returns-clause-judged : goal.returns-clause-judged
 returns-clause-judged c =
@@ -72,11 +72,11 @@ returns-clause-judged c =
     let known : IsPrivateLen made c.inserted_len-len.result =
     insert_known s kept c.args.at item need.well need.within edit.kept needed.subrs needed.glyphs subrs_are glyphs_are need.edits.keys c.args.entries.now.fresh edit
     (fresh_by need.edits front) need.entry c.args.private_len c.inserted_len-len.result need.len need.file c.inserted_len-len.ensures in
-    let counts : counts_check made.items ≡ raised_check needed.subrs needed.glyphs c.iter.result =
+    let counts : counts_check made.items ≡ raised_check needed.subrs needed.glyphs c.items-2.result.now =
     insert_counts s kept c.args.at item need.well need.within edit.kept needed.subrs needed.glyphs subrs_are glyphs_are need.entry edit.sound
-    ∙ ap (raised_check needed.subrs needed.glyphs) (sym (c.iter.ensures.items ∙ c.items-2.ensures)) in
+    ∙ ap (raised_check needed.subrs needed.glyphs) (sym c.items-2.ensures) in
     let short = sym (c.in_ok-check_parts.ensures made (sym c.clear.ensures) (sym c.tail.ensures) known) in
-    file_passed made short (counts ∙ sym c.in_ok-check_raised.ensures)
+    file_passed made short (counts ∙ sym c.in_ok-check_raised_sections.ensures)
 
 pub returns-clause-len : goal.returns-clause-len
 returns-clause-len c =

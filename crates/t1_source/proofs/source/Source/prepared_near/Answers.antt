@@ -3,7 +3,7 @@ use Rattle.t1_source.specs.Changes.{changed}
 use Rattle.t1_source.specs.Editing.{edited}
 use Rattle.t1_pairs.specs.Kerning.{are_pairs}
 use Rattle.t1_source.proofs.WellFormedEditedLaws.{edited_well_formed, edited_pairs}
-use Rattle.t1_source.proofs.source.Source.prepared.Goals as goal
+use Rattle.t1_source.proofs.source.Source.prepared_near.Goals as goal
 
 pub returns-clause-serves : goal.returns-clause-serves
 returns-clause-serves c =
