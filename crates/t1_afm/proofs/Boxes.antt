@@ -13,7 +13,8 @@ use Rattle.t1_run.specs.declared.outline.Segment.TheVariants.{Line, Curve}
 use Rattle.t1_frac.specs.Outcome.{◌>>=◌}
 use Rattle.t1_run.specs.Composite.{moved_segment, moved_outline}
 use Rattle.t1_afm.specs.declared.bbox.BBox.{BBox}
-use Rattle.t1_afm.specs.Points.{points, points_of, cubic_at, cubic_values, curve_at, sixty_fourths}
+use Rattle.t1_afm.specs.Points.{points, points_of, cubic_at, curve_at, sixty_fourths}
+use Rattle.t1_afm.specs.CubicValues.{cubic_values}
 use Rattle.t1_afm.specs.Box.{box, around, unite}
 use Rattle.t1_afm.specs.Spans.{span_of, spans_box}
 

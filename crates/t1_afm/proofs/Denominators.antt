@@ -18,7 +18,8 @@ use Rattle.t1_frac.specs.Limits.{IsCoordinate}
 use Rattle.t1_frac.proofs.Rounded.{IsFloor, floor_is, round_alike}
 use Rattle.t1_afm.specs.declared.span.Span.{Span}
 use Rattle.t1_afm.specs.declared.common.CommonCubic.{CommonCubic}
-use Rattle.t1_afm.specs.Points.{times, over_whole, cubic_at, cubic_values, sixty_fourths}
+use Rattle.t1_afm.specs.Points.{times, over_whole, cubic_at, sixty_fourths}
+use Rattle.t1_afm.specs.CubicValues.{cubic_values}
 use Rattle.t1_afm.specs.Spans.{span_of}
 use Rattle.t1_afm.specs.Bounds.{over_cube, over_den, over_cube_and}
 use Rattle.t1_afm.specs.Common.{IsCommon, common_values}

@@ -2,7 +2,7 @@
 use Rattle.std.specs.Prelude.{List}
 use Rattle.t1_frac.specs.Fraction.{Fraction, IsSame}
 use Rattle.t1_afm.specs.declared.common.CommonCubic.{CommonCubic}
-use Rattle.t1_afm.specs.Points.{cubic_values}
+use Rattle.t1_afm.specs.CubicValues.{cubic_values}
 use Rattle.t1_afm.specs.Bounds.{over_den}
 
 -- word: the points of a cubic over a common denominator are these fractions

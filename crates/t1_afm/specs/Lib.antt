@@ -2,6 +2,7 @@ pub mod Afm
 pub mod Bounds
 pub mod Box
 pub mod Common
+pub mod CubicValues
 pub mod Differences
 pub mod Lines
 pub mod Points

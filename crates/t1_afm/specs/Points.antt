@@ -30,10 +30,6 @@ cubic_at a b c d k = bernstein (64 - k) k a b c d
 unfoldable pub sixty_fourths : List ℕ
 sixty_fourths = range_with_len 0 65
 
--- word: the 65 values of a cubic
-abbrev pub cubic_values : Fraction → Fraction → Fraction → Fraction → List Fraction
-cubic_values a b c d = map (cubic_at a b c d) sixty_fourths
-
 -- profile: the point of a curve at k/64, each coordinate by its cubic
 abbrev pub curve_at : Point → Point → Point → Point → ℕ → Point
 curve_at a b c d k = record { x = cubic_at a.x b.x c.x d.x k; y = cubic_at a.y b.y c.y d.y k }

@@ -2,7 +2,7 @@
 ghost use Rattle.std.specs.Prelude.{◌≡◌, ◌≢◌, [], ◌∷◌, ◌++◌, Ok, Err, length, flat_map, map, codes};
 ghost use Rattle.std.specs.Prelude.{decimal, option_map};
 ghost use Rattle.std.specs.Fmt.{signed_decimal};
-ghost use Rattle.t1_code.specs.Counted.{Puts, Writes, outlet};
+ghost use Rattle.t1_code.specs.Writing.{Puts, Writes, outlet};
 ghost use Rattle.t1_code.specs.Parts.{Prints};
 ghost use Rattle.t1_afm.specs.Afm.{line_text, lines_text, value_lines, values_before_box as names};
 ghost use Rattle.t1_afm.specs.Afm.{values_after_box as others, scheme as scheme_of, header_lines};

@@ -2,7 +2,8 @@
 
 ghost use Rattle.std.specs.Prelude.{◌≡◌, ◌≤◌};
 ghost use Rattle.t1_frac.specs.Limits.{IsCoordinate};
-ghost use Rattle.t1_afm.specs.Points.{cubic_at, cubic_values};
+ghost use Rattle.t1_afm.specs.Points.{cubic_at};
+ghost use Rattle.t1_afm.specs.CubicValues.{cubic_values};
 ghost use Rattle.t1_afm.specs.Spans.{span_of, span_around_one};
 ghost use Rattle.t1_afm.specs.Bounds.{IsInRange, fraction_of};
 

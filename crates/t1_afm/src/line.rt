@@ -1,6 +1,6 @@
 //! Lines of a text: a key and its values, with a space between each two words.
 ghost use Rattle.std.specs.Prelude.{◌∷◌};
-ghost use Rattle.t1_code.specs.Counted.{Puts, outlet};
+ghost use Rattle.t1_code.specs.Writing.{Puts, outlet};
 ghost use Rattle.t1_afm.specs.Afm.{line_text, rest_text};
 ghost use Rattle.t1_afm.specs.Lines.{word_text, line_words};
 

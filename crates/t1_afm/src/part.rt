@@ -2,7 +2,7 @@
 //! its values, and the text between each two of them.
 ghost use Rattle.std.specs.Prelude.{◌≡◌, ℕ, List, [], ◌∷◌, ◌++◌, flat_map, codes};
 ghost use Rattle.std.specs.Fmt.{signed_decimal};
-ghost use Rattle.t1_code.specs.Counted.{Puts, outlet};
+ghost use Rattle.t1_code.specs.Writing.{Puts, outlet};
 ghost use Rattle.t1_afm.specs.Afm.{line_text, rest_text, lines_text, value_line, char_line};
 ghost use Rattle.t1_afm.specs.Afm.{pair_line, composite_line, sides, entries, code_number};
 ghost use Rattle.t1_afm.specs.Lines.{line_words, word_text, value_bytes};

@@ -1,36 +1,7 @@
 -- Elements that stand in blocks.
-use Rattle.std.specs.Prelude.{◌≡◌, ◌<◌, ◌+◌, ◌-◌, ℕ, Bool, true, false, Option, Some, None, List, [], length, take, flat_map}
-use Rattle.std.specs.Borrow.{Bor}
-use Rattle.std.specs.List.{slice_index_or}
-use Rattle.std.specs.Ordering.{is_lt}
-use Rattle.std.specs.declared.cmp.Ordering.{Ordering}
+use Rattle.std.specs.Prelude.{List, flat_map}
 
 module _ {T : Type 0} where
   -- profile: the elements of some blocks, one block after another
-  abbrev pub joined : List (List T) → List T
-  joined blocks = flat_map (λ block. block) blocks
-
-  -- word: the elements that are left of a block, or none
-  abbrev pub in_front : Option (Bor (List T)) → List T
-  in_front None = []
-  in_front (Some front) = front.now
-
-  -- word: the element of a place stands so many elements into the block of an index
-  abbrev pub IsPlace : ℕ → List (List T) → ℕ × ℕ → Type 0
-  IsPlace at blocks place =
-      (place.0 < length blocks)
-      × (length (joined (take place.0 blocks)) + place.1 ≡ at)
-      × ((d : List T) → place.1 < length (slice_index_or blocks place.0 d))
-
-  -- word: the last element of a block, of which an order answers `Less` or not
-  abbrev pub EndsBefore : (T → Ordering) → List T → Bool → Type 0
-  EndsBefore order block is_before =
-      (0 < length block) × ((d : T) → is_lt (order (slice_index_or block (length block - 1) d)) ≡ is_before)
-
-  -- word: the block in front of an index ends before what the order looks for
-  abbrev pub IsAfter : (T → Ordering) → List (List T) → ℕ → Type 0
-  IsAfter order blocks index = (before : ℕ) (d : List T) → before + 1 ≡ index → EndsBefore order (slice_index_or blocks before d) true
-
-  -- word: the block of an index, where there is one, doesn't
-  abbrev pub IsUpTo : (T → Ordering) → List (List T) → ℕ → Type 0
-  IsUpTo order blocks index = (d : List T) → index < length blocks → EndsBefore order (slice_index_or blocks index d) false
+  abbrev pub blocks_joined : List (List T) → List T
+  blocks_joined blocks = flat_map (λ block. block) blocks

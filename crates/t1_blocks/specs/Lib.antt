@@ -1,1 +1,2 @@
+pub mod BlockPlaces
 pub mod Blocks

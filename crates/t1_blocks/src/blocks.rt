@@ -28,11 +28,11 @@ impl<T> Model for Blocks<T> {
 
     ghost Value = { List T };
 
-    ghost use Rattle.t1_blocks.specs.Blocks.{joined};
+    ghost use Rattle.t1_blocks.specs.Blocks.{blocks_joined};
 
-    ghost view = { λ blocks. joined blocks.blocks.items };
+    ghost view = { λ blocks. blocks_joined blocks.blocks.items };
 
-    ghost invariant = { λ blocks. blocks.len ≡ length (joined blocks.blocks.items) };
+    ghost invariant = { λ blocks. blocks.len ≡ length (blocks_joined blocks.blocks.items) };
 }
 
 impl<T> Blocks<T> {

@@ -1,7 +1,7 @@
 //! The elements that are left, one after another.
 
 ghost use Rattle.std.specs.Prelude.{◌≡◌};
-ghost use Rattle.t1_blocks.specs.Blocks.{joined};
+ghost use Rattle.t1_blocks.specs.Blocks.{blocks_joined};
 
 use crate::block::Block;
 use std::marker::Model;
@@ -17,17 +17,18 @@ pub struct BlocksIter<'b, T> {
 
 impl<'b, T> Model for BlocksIter<'b, T> {
     ghost use Rattle.std.specs.Prelude.{List, ◌++◌};
-    ghost use Rattle.t1_blocks.specs.Blocks.{in_front, joined};
+    ghost use Rattle.t1_blocks.specs.Blocks.{blocks_joined};
+    ghost use Rattle.t1_blocks.specs.BlockPlaces.{in_front};
 
     ghost Value = { List T };
 
-    ghost view = { λ left. in_front left.front ++ joined left.blocks.rest.now };
+    ghost view = { λ left. in_front left.front ++ blocks_joined left.blocks.rest.now };
 }
 
 impl<'b, T> BlocksIter<'b, T> {
     /// The elements of some blocks.
     pub(crate) fn over(blocks: &'b [Block<T>]) -> Self
-        ensures { result ≡ joined blocks.now }
+        ensures { result ≡ blocks_joined blocks.now }
     {
         BlocksIter {
             front: None,

@@ -3,7 +3,8 @@
 ghost use Rattle.std.specs.Prelude.{◌≡◌, ◌<◌, ◌≤◌, ◌∷◌, ◌++◌, [], List, length, slice_set};
 ghost use Rattle.std.specs.Prelude.{IfOk, OnOk, OnErr};
 ghost use Rattle.std.specs.List.{insert, remove, slice_index_or};
-ghost use Rattle.t1_blocks.specs.Blocks.{joined, IsPlace};
+ghost use Rattle.t1_blocks.specs.Blocks.{blocks_joined};
+ghost use Rattle.t1_blocks.specs.BlockPlaces.{IsPlaceInBlocks};
 
 use crate::block::Block;
 use crate::places::{last_with_room, place_of};
@@ -13,7 +14,7 @@ use std::alloc::{AllocError, Global};
 fn cut<T: Drop>(blocks: &mut Vec<Block<T>>, index: usize) -> Result<(), AllocError>
     requires within { index < length blocks.old.items }
     requires some { (d : List T) → 1 < length (slice_index_or blocks.old.items index d) }
-    ensures { joined blocks.new.items ≡ joined blocks.old.items }
+    ensures { blocks_joined blocks.new.items ≡ blocks_joined blocks.old.items }
 {
     blocks.reserve(1)?;
     let back = blocks[index].split()?;
@@ -26,9 +27,9 @@ fn place_with_room<T: Drop>(
     blocks: &mut Vec<Block<T>>,
     at: usize,
 ) -> Result<(usize, usize), AllocError>
-    requires { at < length (joined blocks.old.items) }
-    ensures same { joined blocks.new.items ≡ joined blocks.old.items }
-    ensures place { IfOk result (λ place. IsPlace at blocks.new.items place) }
+    requires { at < length (blocks_joined blocks.old.items) }
+    ensures same { blocks_joined blocks.new.items ≡ blocks_joined blocks.old.items }
+    ensures place { IfOk result (λ place. IsPlaceInBlocks at blocks.new.items place) }
 {
     let place = place_of(blocks.as_slice(), at);
     if !blocks[place.0].is_full() {
@@ -40,8 +41,8 @@ fn place_with_room<T: Drop>(
 
 /// Puts an element in the place of another.
 pub(crate) fn set<T: Drop>(blocks: &mut Vec<Block<T>>, at: usize, element: T)
-    requires { at < length (joined blocks.old.items) }
-    ensures { joined blocks.new.items ≡ slice_set (joined blocks.old.items) at element }
+    requires { at < length (blocks_joined blocks.old.items) }
+    ensures { blocks_joined blocks.new.items ≡ slice_set (blocks_joined blocks.old.items) at element }
 {
     let (index, offset) = place_of(blocks.as_slice(), at);
     blocks[index].set(offset, element);
@@ -53,10 +54,10 @@ fn insert_before<T: Drop>(
     at: usize,
     element: T,
 ) -> Result<(), AllocError>
-    requires { at < length (joined blocks.old.items) }
+    requires { at < length (blocks_joined blocks.old.items) }
     ensures ok { OnOk result
-        (joined blocks.new.items ≡ insert (joined blocks.old.items) at element) }
-    ensures err { OnErr result (joined blocks.new.items ≡ joined blocks.old.items) }
+        (blocks_joined blocks.new.items ≡ insert (blocks_joined blocks.old.items) at element) }
+    ensures err { OnErr result (blocks_joined blocks.new.items ≡ blocks_joined blocks.old.items) }
 {
     let (index, offset) = place_with_room(blocks, at)?;
     blocks[index].insert(offset, element)
@@ -64,8 +65,8 @@ fn insert_before<T: Drop>(
 
 /// Adds an element at the end. Where memory runs out, the elements are the same.
 fn push<T: Drop>(alloc: Global, blocks: &mut Vec<Block<T>>, element: T) -> Result<(), AllocError>
-    ensures ok { OnOk result (joined blocks.new.items ≡ joined blocks.old.items ++ element ∷ []) }
-    ensures err { OnErr result (joined blocks.new.items ≡ joined blocks.old.items) }
+    ensures ok { OnOk result (blocks_joined blocks.new.items ≡ blocks_joined blocks.old.items ++ element ∷ []) }
+    ensures err { OnErr result (blocks_joined blocks.new.items ≡ blocks_joined blocks.old.items) }
 {
     let Some(last) = last_with_room(blocks.as_slice()) else {
         let block = Block::one(alloc, element)?;
@@ -83,11 +84,11 @@ pub(crate) fn insert<T: Drop>(
     at: usize,
     element: T,
 ) -> Result<(), AllocError>
-    requires len { len ≡ length (joined blocks.old.items) }
+    requires len { len ≡ length (blocks_joined blocks.old.items) }
     requires within { at ≤ len }
     ensures ok { OnOk result
-        (joined blocks.new.items ≡ insert (joined blocks.old.items) at element) }
-    ensures err { OnErr result (joined blocks.new.items ≡ joined blocks.old.items) }
+        (blocks_joined blocks.new.items ≡ insert (blocks_joined blocks.old.items) at element) }
+    ensures err { OnErr result (blocks_joined blocks.new.items ≡ blocks_joined blocks.old.items) }
 {
     if at == len {
         return push(alloc, blocks, element);
@@ -97,8 +98,8 @@ pub(crate) fn insert<T: Drop>(
 
 /// Takes an element out, and its block, where it is the only one in it.
 pub(crate) fn remove<T: Drop>(blocks: &mut Vec<Block<T>>, at: usize)
-    requires { at < length (joined blocks.old.items) }
-    ensures { joined blocks.new.items ≡ remove (joined blocks.old.items) at }
+    requires { at < length (blocks_joined blocks.old.items) }
+    ensures { blocks_joined blocks.new.items ≡ remove (blocks_joined blocks.old.items) at }
 {
     let (index, offset) = place_of(blocks.as_slice(), at);
     if blocks[index].len() == 1 {

@@ -1,14 +1,15 @@
 //! Places of elements among blocks.
 
 ghost use Rattle.std.specs.Prelude.{◌≡◌, ◌<◌, ◌≤◌, ◌+◌, ◌^◌, length, take, IfSome};
-ghost use Rattle.t1_blocks.specs.Blocks.{joined, IsPlace};
+ghost use Rattle.t1_blocks.specs.Blocks.{blocks_joined};
+ghost use Rattle.t1_blocks.specs.BlockPlaces.{IsPlaceInBlocks};
 
 use crate::block::Block;
 
 /// Where the element of a place stands: in which block, and how many elements of it stand before.
 pub(crate) fn place_of<T>(blocks: &[Block<T>], at: usize) -> (usize, usize)
-    requires { at < length (joined blocks.now) }
-    ensures { IsPlace at blocks.now result }
+    requires { at < length (blocks_joined blocks.now) }
+    ensures { IsPlaceInBlocks at blocks.now result }
 {
     let mut index = 0;
     let mut left = at;
@@ -26,8 +27,8 @@ pub(crate) fn place_of<T>(blocks: &[Block<T>], at: usize) -> (usize, usize)
 /// How many elements stand in front of a block.
 pub(crate) fn len_before<T>(blocks: &[Block<T>], index: usize) -> usize
     requires within { index ≤ length blocks.now }
-    requires few { length (joined blocks.now) < 2 ^ 64 }
-    ensures { result ≡ length (joined (take index blocks.now)) }
+    requires few { length (blocks_joined blocks.now) < 2 ^ 64 }
+    ensures { result ≡ length (blocks_joined (take index blocks.now)) }
 {
     let front = blocks.split_at(index).0;
     let mut len = 0;

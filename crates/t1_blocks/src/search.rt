@@ -4,7 +4,8 @@ ghost use Rattle.std.specs.Prelude.{◌≡◌, ◌≤◌, length};
 ghost use Rattle.std.specs.Fn.{ComputesKey};
 ghost use Rattle.std.specs.List.Sorted.{IsBinarySearchResult, IsSearchInRange};
 ghost use Rattle.std.specs.declared.cmp.Ordering.{Ordering};
-ghost use Rattle.t1_blocks.specs.Blocks.{joined, EndsBefore, IsAfter, IsUpTo};
+ghost use Rattle.t1_blocks.specs.Blocks.{blocks_joined};
+ghost use Rattle.t1_blocks.specs.BlockPlaces.{EndsBefore, IsAfter, IsUpTo};
 
 use crate::block::Block;
 use crate::places::len_before;
@@ -52,11 +53,11 @@ pub(crate) fn binary_search_by<T, F: FnMut(&T) -> Ordering>(
     mut order: F,
 ) -> Result<usize, usize>
     requires callable { F.IsAlwaysCallable order }
-    requires len { len ≡ length (joined blocks.now) }
-    ensures bound { IsSearchInRange result (length (joined blocks.now)) }
+    requires len { len ≡ length (blocks_joined blocks.now) }
+    ensures bound { IsSearchInRange result (length (blocks_joined blocks.now)) }
     ensures position { (by : T → Ordering)
         → ComputesKey F.FnMut by order
-        → IsBinarySearchResult by (joined blocks.now) result }
+        → IsBinarySearchResult by (blocks_joined blocks.now) result }
 {
     let index = block_of(blocks, &mut order);
     if index == blocks.len() {

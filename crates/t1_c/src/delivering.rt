@@ -3,7 +3,7 @@ ghost use Rattle.std.specs.Prelude.{◌≡◌, ◌≤◌, ◌-◌, ◌^◌, ℕ,
 ghost use Rattle.t1_frac.specs.declared.fault.Fault.{Fault};
 ghost use Rattle.t1_frac.specs.Outcome.{Gives};
 ghost use Rattle.t1_disassemble.specs.declared.fault.FontFault.{FontFault};
-ghost use Rattle.t1_disassemble.specs.Outcome.{Gives as GivesFont};
+ghost use Rattle.t1_disassemble.specs.Outcome.{GivesFont};
 ghost use Rattle.t1_commands.specs.Blocks.{block_size};
 ghost use Rattle.t1_c.specs.Calls.{Delivered, DeliveredFont, Judged, Listed};
 

@@ -8,14 +8,15 @@ use Rattle.std.specs.Str.{bytes_eq}
 use Rattle.std.specs.declared.alloc.Global.{Global}
 use Rattle.std.specs.declared.vec.Vec.{Vec}
 use Rattle.indexmap.specs.IndexMap.{insert_entry}
-use Rattle.t1_run.specs.Run.{Key, Subr, Glyph, body_at, key_eq}
+use Rattle.t1_run.specs.Run.{Key, Subr, Glyph}
+use Rattle.t1_run.specs.RunKeys.{body_at, key_eq}
 use Rattle.t1_run.specs.Footprint.{Includes, SameAt}
 use Rattle.t1_cache.specs.declared.records.GlyphRecord.{GlyphRecord}
 use Rattle.t1_cache.specs.declared.records.SubrRecord.{SubrRecord}
 use Rattle.t1_cache.specs.Bodies.{glyph_body, record_bodies, subr_body}
 use Rattle.t1_cache.specs.Changed.{ChangedBodiesLaw, RestLaw}
 use Rattle.t1_cache.specs.Recorded.{Kept, kept_of}
-use Rattle.t1_cache.specs.Users.{among, glyph_rest, has_name, subr_rest, GlyphRest, HasUserRoom, SubrRest, UserSet}
+use Rattle.t1_cache.specs.Users.{among, glyph_rest, is_name_among, subr_rest, GlyphRest, HasUserRoom, SubrRest, UserSet}
 use Rattle.t1_font.proofs.Keys.{key-itself, key-same, at-same, same-at}
 use Rattle.t1_font.proofs.Keeping.{map-cond}
 use Rattle.t1_font.proofs.Lookups.{Distinguishes, inserted-at, lookup-but}
@@ -44,7 +45,7 @@ module _ {Q K R : Type 0} (eq : Q → Q → Bool) (t : Distinguishes eq) (name :
       → (q : Q) (u : List ℕ) → among (at eq name users (insert_entry (λ x y. eq (name x) (name y)) es k r) q) u ≡ among (at eq name users es q) u
   users-inserted empty q u = ap (λ s. among s u) (reads-inserted eq t name users es k r q) ∙ by (eq q (name k)) refl where
     by : (b : Bool) → eq q (name k) ≡ b → among (cond b (Some (users r)) (at eq name users es q)) u ≡ among (at eq name users es q) u
-    by true on = ap (λ names. has_name (λ n. n.items) names u) empty ∙ ap (λ s. among s u) (sym (there-none q on))
+    by true on = ap (λ names. is_name_among (λ n. n.items) names u) empty ∙ ap (λ s. among s u) (sym (there-none q on))
     by false off = refl
 
   -- room stays

@@ -22,7 +22,8 @@ use Rattle.t1_source.proofs.WellFormedEditedLaws.{source_given}
 use Rattle.t1_source.proofs.ItemPlaceLaws.{before_last, position_first, removed_there, set_there}
 use Rattle.t1_source.proofs.StandLaws.{stand_back}
 use Rattle.t1_source.proofs.WellFormedEntryLaws.{any_last, any_first}
-use Rattle.t1_run.specs.Run.{Key, Subr, Glyph, body_at}
+use Rattle.t1_run.specs.Run.{Key, Subr, Glyph}
+use Rattle.t1_run.specs.RunKeys.{body_at}
 use Rattle.t1_run.specs.Footprint.{Includes}
 use Rattle.t1_run.proofs.Asked.{eq_self}
 use Rattle.t1_font.specs.Bodies.{bodies, glyph_among, glyph_in, subr_among, subr_in}

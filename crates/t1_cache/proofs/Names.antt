@@ -17,7 +17,7 @@ use Rattle.indexmap.specs.IndexSet.{insert_key}
 use Rattle.t1_cache.specs.declared.records.GlyphRecord.{GlyphRecord}
 use Rattle.t1_cache.specs.Laws.{AreDistinct}
 use Rattle.t1_cache.specs.Renewed.{names_of}
-use Rattle.t1_cache.specs.Users.{has_name}
+use Rattle.t1_cache.specs.Users.{is_name_among}
 
 -- keys are put in after the others
 pub inserted-after : {K : Type 0} (eq : K → K → Bool) (ks : List K) (k : K) → (more : List K) × (insert_key eq ks k ≡ ks ++ more)
@@ -29,13 +29,13 @@ inserted-after eq ks k =
 
 -- one more of the names
 pub one-more : {K : Type 0} (name : K → List ℕ) (g : List ℕ) (xs : List K) (i : ℕ) (x : K) → i < length xs → x ≡ get_or xs i x
-    → has_name name (take (i + 1) xs) g ≡ (has_name name (take i xs) g || bytes_eq g (name x))
+    → is_name_among name (take (i + 1) xs) g ≡ (is_name_among name (take i xs) g || bytes_eq g (name x))
 one-more name g xs i x h e =
-    list_any_more (λ k. bytes_eq g (name k)) xs i x h ∙ ap (λ y. has_name name (take i xs) g || bytes_eq g (name y)) (sym e)
+    list_any_more (λ k. bytes_eq g (name k)) xs i x h ∙ ap (λ y. is_name_among name (take i xs) g || bytes_eq g (name y)) (sym e)
 
 -- ---- sets have no more names than others that have them all
 
-has-map : {K : Type 0} (name : K → List ℕ) (ks : List K) (g : List ℕ) → list_any (bytes_eq g) (map name ks) ≡ has_name name ks g
+has-map : {K : Type 0} (name : K → List ℕ) (ks : List K) (g : List ℕ) → list_any (bytes_eq g) (map name ks) ≡ is_name_among name ks g
 has-map name [] g = refl
 has-map name (k ∷ ks) g = ap (λ b. bytes_eq g (name k) || b) (has-map name ks g)
 
@@ -53,7 +53,7 @@ pub bytes_equiv : IsEquivalence bytes_eq
 bytes_equiv = nat_list_eq_equiv
 
 pub no-more-names : {K L M : Type 0} (name : K → List ℕ) (name' : L → List ℕ) (name'' : M → List ℕ) (ks : List K) (ls : List L) (ms : List M)
-    → IsDistinct (λ x y. bytes_eq (name x) (name y)) ks → ((g : List ℕ) → has_name name ks g ≡ true → (has_name name' ls g ≡ true) ⊎ (has_name name'' ms g ≡ true))
+    → IsDistinct (λ x y. bytes_eq (name x) (name y)) ks → ((g : List ℕ) → is_name_among name ks g ≡ true → (is_name_among name' ls g ≡ true) ⊎ (is_name_among name'' ms g ≡ true))
     → length ks ≤ length ls + length ms
 no-more-names name name' name'' ks ls ms distinct among =
     let bound : length (map name ks) ≤ length (map name' ls ++ map name'' ms) =
@@ -70,10 +70,10 @@ no-more-names name name' name'' ks ls ms distinct among =
 
 -- ---- a name that is taken out
 
-pub witness : {K : Type 0} (name : K → List ℕ) (ks : List K) (g : List ℕ) → has_name name ks g ≡ true → (k : K) × (name k ≡ g)
+pub witness : {K : Type 0} (name : K → List ℕ) (ks : List K) (g : List ℕ) → is_name_among name ks g ≡ true → (k : K) × (name k ≡ g)
 witness name [] g h = absurd (cc)
 witness name (k ∷ ks) g h =
-    elim (or_cases (bytes_eq g (name k)) (has_name name ks g) h) [
+    elim (or_cases (bytes_eq g (name k)) (is_name_among name ks g) h) [
       | inl e ↦ (k, sym ((bytes_eq-Decides g (name k)).0 e))
       | inr r ↦ witness name ks g r
     ]
@@ -87,13 +87,13 @@ but-one n u was = ap (λ b. cond b false was) (bytes_equiv.symm n u) ∙ turn (b
   turn false false = refl
 
 pub taken-out : {K : Type 0} (name : K → List ℕ) (old new : List K) (n : List ℕ)
-    → ((q : K) → has_name name new (name q) ≡ cond (bytes_eq n (name q)) false (has_name name old (name q)))
-    → (u : List ℕ) → has_name name new u ≡ (has_name name old u && not (bytes_eq u n))
-taken-out name old new n at u = by (has_name name new u) (has_name name old u) refl refl where
-  reported : (k : _) → name k ≡ u → has_name name new u ≡ (has_name name old u && not (bytes_eq u n))
-  reported k e = sym (ap (has_name name new) e) ∙ at k ∙ ap (λ v. cond (bytes_eq n v) false (has_name name old v)) e ∙ but-one n u (has_name name old u)
+    → ((q : K) → is_name_among name new (name q) ≡ cond (bytes_eq n (name q)) false (is_name_among name old (name q)))
+    → (u : List ℕ) → is_name_among name new u ≡ (is_name_among name old u && not (bytes_eq u n))
+taken-out name old new n at u = by (is_name_among name new u) (is_name_among name old u) refl refl where
+  reported : (k : _) → name k ≡ u → is_name_among name new u ≡ (is_name_among name old u && not (bytes_eq u n))
+  reported k e = sym (ap (is_name_among name new) e) ∙ at k ∙ ap (λ v. cond (bytes_eq n v) false (is_name_among name old v)) e ∙ but-one n u (is_name_among name old u)
 
-  by : (a b : Bool) → has_name name new u ≡ a → has_name name old u ≡ b → has_name name new u ≡ (has_name name old u && not (bytes_eq u n))
+  by : (a b : Bool) → is_name_among name new u ≡ a → is_name_among name old u ≡ b → is_name_among name new u ≡ (is_name_among name old u && not (bytes_eq u n))
   by true b e f = let w = witness name new u e in reported w.0 w.1
   by false true e f = let w = witness name old u f in reported w.0 w.1
   by false false e f = e ∙ sym (ap (λ b. b && not (bytes_eq u n)) f)

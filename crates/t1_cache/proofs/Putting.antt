@@ -8,7 +8,7 @@ use Rattle.std.proofs.Math.Bool.{and-true, or-false}
 use Rattle.std.proofs.lemmas.Bool.{cases_Bool}
 use Rattle.t1_font.proofs.Keeping.{map-cond}
 use Rattle.t1_font.proofs.Lookups.{Distinguishes, again}
-use Rattle.t1_cache.specs.Users.{has_name, among, HasUserRoom, UserSet}
+use Rattle.t1_cache.specs.Users.{is_name_among, among, HasUserRoom, UserSet}
 
 apart : {Q : Type 0} (eq : Q → Q → Bool) → Distinguishes eq → (a b c : Q) → eq a b ≡ true → eq c b ≡ false → eq a c ≡ false
 apart eq t a b c on off =
@@ -78,7 +78,7 @@ reads-stay eq t name read es p was now h same q =
 
 pub left : {Q K R : Type 0} (eq : Q → Q → Bool) → Distinguishes eq → (name : K → Q) (users : R → UserSet) (es : List (K × R)) (p : Q) (was now : R) (user : List ℕ)
     → lookup (λ k. eq p (name k)) es ≡ Some was
-    → ((u : List ℕ) → has_name (λ k. k.items) (users now).names u ≡ (has_name (λ k. k.items) (users was).names u && not (bytes_eq u user)))
+    → ((u : List ℕ) → is_name_among (λ k. k.items) (users now).names u ≡ (is_name_among (λ k. k.items) (users was).names u && not (bytes_eq u user)))
     → (q : Q) (u : List ℕ)
     → among (at eq name users (set_value (λ k. eq p (name k)) es now) q) u ≡ (among (at eq name users es q) u && not (eq q p && bytes_eq u user))
 left eq t name users es p was now user h out q u =
@@ -96,7 +96,7 @@ left eq t name users es p was now user h out q u =
 
 pub came : {Q K R : Type 0} (eq : Q → Q → Bool) → Distinguishes eq → (name : K → Q) (users : R → UserSet) (es : List (K × R)) (p : Q) (was now : R) (user : List ℕ)
     → lookup (λ k. eq p (name k)) es ≡ Some was
-    → ((u : List ℕ) → has_name (λ k. k.items) (users now).names u ≡ (has_name (λ k. k.items) (users was).names u || bytes_eq u user))
+    → ((u : List ℕ) → is_name_among (λ k. k.items) (users now).names u ≡ (is_name_among (λ k. k.items) (users was).names u || bytes_eq u user))
     → (q : Q) (u : List ℕ)
     → among (at eq name users (set_value (λ k. eq p (name k)) es now) q) u ≡ (among (at eq name users es q) u || (eq q p && bytes_eq u user))
 came eq t name users es p was now user h put q u =

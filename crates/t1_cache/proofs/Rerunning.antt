@@ -17,7 +17,7 @@ use Rattle.t1_cache.specs.Laws.{AreDistinct}
 use Rattle.t1_cache.specs.Renewal.{IsRenewed, RerunsLaw, kept_by}
 use Rattle.t1_cache.specs.Recorded.{IsFromScratch, IsOneOf, Kept, kept_of}
 use Rattle.t1_cache.specs.Renewed.{names_of, rerun_by_name, rerun_of, reruns_by_name, with_run, with_rerun, with_reruns}
-use Rattle.t1_cache.specs.Users.{has_name}
+use Rattle.t1_cache.specs.Users.{is_name_among}
 use Rattle.t1_cache.proofs.Names.{bytes_equiv}
 use Rattle.t1_font.proofs.Lookups.{bytes_tell}
 use Rattle.t1_cache.proofs.Renewing.{renewed}
@@ -114,11 +114,11 @@ found-rerun P g (x ∷ reruns) r all e = by (bytes_eq g x.name.items) refl e (fo
   by true on e rest = let is : x ≡ r = cc in (subst P is all.0, subst (λ y. bytes_eq g y.name.items ≡ true) is on)
   by false off e rest = rest e
 
-has-rerun : (g : List ℕ) (reruns : List Rerun) → has_name (λ r. r.name.items) reruns g ≡ is_some (rerun_of reruns g)
+has-rerun : (g : List ℕ) (reruns : List Rerun) → is_name_among (λ r. r.name.items) reruns g ≡ is_some (rerun_of reruns g)
 has-rerun g [] = refl
 has-rerun g (x ∷ reruns) = by (bytes_eq g x.name.items) (has-rerun g reruns) where
-  by : (b : Bool) → has_name (λ r. r.name.items) reruns g ≡ is_some (rerun_of reruns g)
-      → (b || has_name (λ r. r.name.items) reruns g) ≡ is_some (cond b (Some x) (rerun_of reruns g))
+  by : (b : Bool) → is_name_among (λ r. r.name.items) reruns g ≡ is_some (rerun_of reruns g)
+      → (b || is_name_among (λ r. r.name.items) reruns g) ≡ is_some (cond b (Some x) (rerun_of reruns g))
   by true rest = refl
   by false rest = rest
 
@@ -135,13 +135,13 @@ names-stay reruns (k ∷ kept) =
 pub records_rerun : RerunsLaw
 records_rerun keys old new edit reported e kept before reruns was order fresh scratch stale =
     renewed keys old new edit reported e kept (with_reruns reruns before) was (names-stay reruns before ∙ order)
-    (all-with (λ k. has_name (λ r. r.name.items) reruns k.name ≡ is_stale old keys k.name) (λ k. is_stale old keys k.name ≡ false → IsOneOf kept k)
+    (all-with (λ k. is_name_among (λ r. r.name.items) reruns k.name ≡ is_stale old keys k.name) (λ k. is_stale old keys k.name ≡ false → IsOneOf kept k)
     (IsRenewed keys old new kept) (λ k. with_rerun (rerun_of reruns k.name) k) each before
-    (all-named (λ k. has_name (λ r. r.name.items) reruns k.name ≡ is_stale old keys k.name) before
+    (all-named (λ k. is_name_among (λ r. r.name.items) reruns k.name ≡ is_stale old keys k.name) before
     (λ k there. stale k.name (ap (list_any (bytes_eq k.name)) (sym order) ∙ there)))
     fresh)
   where
-    each : (k : Kept) → has_name (λ r. r.name.items) reruns k.name ≡ is_stale old keys k.name → (is_stale old keys k.name ≡ false → IsOneOf kept k)
+    each : (k : Kept) → is_name_among (λ r. r.name.items) reruns k.name ≡ is_stale old keys k.name → (is_stale old keys k.name ≡ false → IsOneOf kept k)
         → IsRenewed keys old new kept (with_rerun (rerun_of reruns k.name) k)
     each k same one = by (rerun_of reruns k.name) refl where
       by : (r : Option Rerun) → rerun_of reruns k.name ≡ r → IsRenewed keys old new kept (with_rerun r k)

@@ -5,7 +5,7 @@ use Rattle.std.specs.Option.{option_map}
 use Rattle.std.specs.Str.{bytes_eq}
 use Rattle.t1_cache.specs.declared.records.GlyphRecord.{GlyphRecord}
 use Rattle.t1_cache.specs.Recorded.{Kept, kept_of}
-use Rattle.t1_cache.specs.Users.{has_name}
+use Rattle.t1_cache.specs.Users.{is_name_among}
 use Rattle.t1_font.proofs.Lookups.{bytes_tell}
 
 -- ---- what is left
@@ -62,5 +62,5 @@ all-left : (ks : List Kept) → ks ≡ filter (λ k. true) ks
 all-left [] = refl
 all-left (k ∷ ks) = ap (λ l. k ∷ l) (all-left ks)
 
-pub kept-all : (names : List (Vec ℕ Global)) → length names ≡ 0 → (ks : List Kept) → ks ≡ filter (λ k. not (has_name (λ name. name.items) names k.name)) ks
-kept-all names e ks = all-left ks ∙ ap (λ ns. filter (λ k. not (has_name (λ name. name.items) ns k.name)) ks) (sym (no-items names e))
+pub kept-all : (names : List (Vec ℕ Global)) → length names ≡ 0 → (ks : List Kept) → ks ≡ filter (λ k. not (is_name_among (λ name. name.items) names k.name)) ks
+kept-all names e ks = all-left ks ∙ ap (λ ns. filter (λ k. not (is_name_among (λ name. name.items) ns k.name)) ks) (sym (no-items names e))

@@ -10,7 +10,8 @@ use Rattle.std.proofs.lemmas.Bool.{and_parts}
 use Rattle.std.proofs.lemmas.List.Sums.{count_by_more_no, count_by_more_yes, sum_by-append}
 use Rattle.indexmap.specs.IndexMap.{insert_entry}
 use Rattle.t1_code.specs.declared.command.Command.{Command}
-use Rattle.t1_run.specs.Run.{Key, Subr, Glyph, own, body_at, key_eq}
+use Rattle.t1_run.specs.Run.{Key, Subr, Glyph, own}
+use Rattle.t1_run.specs.RunKeys.{body_at, key_eq}
 use Rattle.t1_run.specs.Touched.{is_user}
 use Rattle.t1_cache.specs.declared.records.Named.{Named}
 use Rattle.t1_cache.specs.declared.records.Records.{Records}

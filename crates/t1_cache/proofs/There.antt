@@ -8,7 +8,8 @@ use Rattle.t1_frac.specs.declared.fault.Code.{Code}
 use Rattle.t1_code.specs.declared.command.Command.{Command}
 use Rattle.t1_run.specs.declared.outline.Composite.{Composite}
 use Rattle.t1_run.specs.Footprint.{asks, HasParts}
-use Rattle.t1_run.specs.Run.{FontBodies, Key, Subr, Glyph, Drawing, own, body_at}
+use Rattle.t1_run.specs.Run.{FontBodies, Key, Subr, Glyph, Drawing, own}
+use Rattle.t1_run.specs.RunKeys.{body_at}
 use Rattle.t1_run.specs.Touched.{is_user}
 use Rattle.t1_run.proofs.Asked.{parts_there, subrs_there}
 use Rattle.t1_cache.specs.There.{UsesThereLaw}

@@ -3,7 +3,8 @@ use Rattle.std.specs.Prelude.{◌≡◌, ◌≤◌, ◌+◌, ℕ, List, [], ◌�
 use Rattle.std.specs.Option.{option_map}
 use Rattle.indexmap.specs.IndexMap.{spare}
 use Rattle.t1_code.specs.declared.command.Command.{Command}
-use Rattle.t1_run.specs.Run.{FontBodies, Key, body_at, key_eq}
+use Rattle.t1_run.specs.Run.{FontBodies, Key}
+use Rattle.t1_run.specs.RunKeys.{body_at, key_eq}
 use Rattle.t1_run.specs.Touched.{SameBut}
 use Rattle.t1_font.specs.KeptBodies.{SameBodies}
 use Rattle.t1_cache.specs.declared.records.Records.{Records}

@@ -2,7 +2,8 @@
 use Rattle.std.specs.Prelude.{◌≡◌, ◌&&◌, ◌||◌, not, ℕ, Bool, true, false, List, Ok, None, Some}
 use Rattle.t1_code.specs.declared.command.Command.{Command}
 use Rattle.t1_run.specs.declared.outline.Segment.{Segment}
-use Rattle.t1_run.specs.Run.{FontBodies, Key, own, body_at, key_eq}
+use Rattle.t1_run.specs.Run.{FontBodies, Key, own}
+use Rattle.t1_run.specs.RunKeys.{body_at, key_eq}
 use Rattle.t1_run.specs.Composite.{outline}
 use Rattle.t1_run.specs.Touched.{SameBut, is_touched, is_user, AreStale}
 use Rattle.t1_parts.specs.SourceParts.{SourceParts}

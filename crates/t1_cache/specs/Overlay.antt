@@ -1,7 +1,8 @@
 -- The bodies of an edited font over those of the font before.
 use Rattle.std.specs.Prelude.{◌≡◌, ℕ, List, Option, Some, None, Ok}
 use Rattle.t1_code.specs.declared.command.Command.{Command}
-use Rattle.t1_run.specs.Run.{FontBodies, Key, Subr, Glyph, body_at, font}
+use Rattle.t1_run.specs.Run.{FontBodies, Key, Subr, Glyph, font}
+use Rattle.t1_run.specs.RunKeys.{body_at}
 use Rattle.t1_run.specs.Footprint.{Includes}
 use Rattle.t1_run.specs.Overlay.{after_change}
 use Rattle.t1_run.specs.Touched.{SameBut}

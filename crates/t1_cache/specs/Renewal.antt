@@ -20,7 +20,7 @@ use Rattle.t1_cache.specs.Kept.{KeepsAll}
 use Rattle.t1_cache.specs.declared.records.Rerun.{Rerun}
 use Rattle.t1_cache.specs.Renewed.{with_reruns}
 use Rattle.t1_cache.specs.Recorded.{Kept, IsFromScratch, IsOneOf}
-use Rattle.t1_cache.specs.Users.{has_name}
+use Rattle.t1_cache.specs.Users.{is_name_among}
 
 -- word: a record of a stale glyph is from scratch, and another is one that was kept
 pub record IsRenewed (keys : List Key) (old new : SourceParts) (kept : List Kept) (k : Kept) : Type 0 where
@@ -47,7 +47,7 @@ RerunsLaw =
     → (kept before : List Kept) (reruns : List Rerun) → KeepsAll old kept → map (λ k. k.name) before ≡ glyph_names new.items
     → AllByRecursion (λ k. is_stale old keys k.name ≡ false → IsOneOf kept k) before
     → AllByRecursion (λ r. IsFromScratch (bodies new.items) (kept_by r)) reruns
-    → ((g : List ℕ) → list_any (bytes_eq g) (glyph_names new.items) ≡ true → has_name (λ r. r.name.items) reruns g ≡ is_stale old keys g)
+    → ((g : List ℕ) → list_any (bytes_eq g) (glyph_names new.items) ≡ true → is_name_among (λ r. r.name.items) reruns g ≡ is_stale old keys g)
     → KeepsAll new (with_reruns reruns before)
 
 -- word: the records after an edit, before any glyph is run again: a new glyph has some run and box, and is the last one

@@ -4,7 +4,8 @@ use Rattle.std.specs.List.{list_any}
 use Rattle.std.specs.Str.{bytes_eq}
 use Rattle.t1_code.specs.declared.command.Command.{Command}
 use Rattle.t1_parts.specs.SourceParts.{SourceParts}
-use Rattle.t1_run.specs.Run.{FontBodies, Key, own, body_at}
+use Rattle.t1_run.specs.Run.{FontBodies, Key, own}
+use Rattle.t1_run.specs.RunKeys.{body_at}
 use Rattle.t1_run.specs.Touched.{is_user}
 use Rattle.t1_font.specs.Bodies.{bodies}
 use Rattle.t1_font.specs.Glyphs.{Glyph as Reported, glyph_names}

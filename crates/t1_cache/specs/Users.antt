@@ -8,7 +8,8 @@ use Rattle.std.specs.declared.alloc.Global.{Global}
 use Rattle.std.specs.declared.vec.Vec.{Vec}
 use Rattle.indexmap.specs.IndexSet.{IndexSet, spare}
 use Rattle.t1_code.specs.declared.command.Command.{Command}
-use Rattle.t1_run.specs.Run.{Key, Subr, Glyph, key_eq}
+use Rattle.t1_run.specs.Run.{Key, Subr, Glyph}
+use Rattle.t1_run.specs.RunKeys.{key_eq}
 use Rattle.t1_extent.specs.Kept.{TracedRun}
 use Rattle.t1_afm.specs.declared.bbox.BBox.{BBox}
 use Rattle.t1_cache.specs.declared.records.GlyphRecord.{GlyphRecord}
@@ -18,8 +19,8 @@ use Rattle.t1_cache.specs.declared.records.Named.{Named}
 use Rattle.t1_cache.specs.EditKeys.{key_of}
 
 -- word: a name is among these
-abbrev pub has_name : {K : Type 0} → (K → List ℕ) → List K → List ℕ → Bool
-has_name name ks g = list_any (λ k. bytes_eq g (name k)) ks
+abbrev pub is_name_among : {K : Type 0} → (K → List ℕ) → List K → List ℕ → Bool
+is_name_among name ks g = list_any (λ k. bytes_eq g (name k)) ks
 
 -- word: the names that a record lists, and how many more fit in with no allocation
 pub record UserSet : Type 0 where
@@ -46,7 +47,7 @@ users_at r (Glyph g) = glyph_users r.glyphs.entries g
 -- word: a glyph is among these users; none is, where there is no record
 abbrev pub among : Option UserSet → List ℕ → Bool
 among None u = false
-among (Some users) u = has_name (λ name. name.items) users.names u
+among (Some users) u = is_name_among (λ name. name.items) users.names u
 
 -- word: the record of a Subr or a glyph lists a glyph as a user
 abbrev pub lists : Records → Key → List ℕ → Bool
@@ -93,7 +94,7 @@ rest_of r = record { subrs = map subr_rest r.subrs.entries; glyphs = map glyph_r
 -- word: the glyph of a key is among these names
 abbrev pub is_key_among : List (Vec ℕ Global) → Key → Bool
 is_key_among names (Subr n) = false
-is_key_among names (Glyph g) = has_name (λ name. name.items) names g
+is_key_among names (Glyph g) = is_name_among (λ name. name.items) names g
 
 -- word: Subrs and glyphs, each with a glyph that leaves or joins its users
 abbrev pub Pairs : Type 0

@@ -3,12 +3,13 @@ ghost use Rattle.std.specs.Prelude.{◌≡◌, ◌<◌, ◌++◌, [], ◌∷◌,
 ghost use Rattle.std.specs.Prelude.{OnOk, filter, map, not, if◌then◌else◌};
 ghost use Rattle.std.specs.Str.{bytes_eq};
 ghost use Rattle.indexmap.specs.IndexMap.{spare};
-ghost use Rattle.t1_run.specs.Run.{Key, Subr, Glyph, body_at};
+ghost use Rattle.t1_run.specs.Run.{Key, Subr, Glyph};
+ghost use Rattle.t1_run.specs.RunKeys.{body_at};
 ghost use Rattle.t1_cache.specs.Bodies.{record_bodies};
 ghost use Rattle.t1_cache.specs.Changed.{AreSameRecords, PutsBody, SetsBody, SetsUsers, UsesUp};
 ghost use Rattle.t1_cache.specs.Renewed.{kept};
 ghost use Rattle.t1_cache.specs.Recorded.{kept_of};
-ghost use Rattle.t1_cache.specs.Users.{has_name, is_key_among, lists, users_at, users_of};
+ghost use Rattle.t1_cache.specs.Users.{is_name_among, is_key_among, lists, users_at, users_of};
 ghost use Rattle.t1_cache.specs.Users.{HasUserRoom};
 
 use crate::records::{GlyphRecord, Names, Records, SubrRecord};
@@ -163,7 +164,7 @@ pub fn remove_glyphs(records: &mut Records, names: &Names)
         → users_at records.new k
         ≡ (if is_key_among names.now.keys k then None else users_at records.old k) }
     ensures kept { map kept_of records.new.glyphs.entries
-        ≡ filter (λ k. not (has_name (λ name. name.items) names.now.keys k.name))
+        ≡ filter (λ k. not (is_name_among (λ name. name.items) names.now.keys k.name))
         (map kept_of records.old.glyphs.entries) }
     ensures room { UsesUp 0 records.old records.new }
 {
@@ -173,7 +174,7 @@ pub fn remove_glyphs(records: &mut Records, names: &Names)
     records.glyphs.retain(
         |name: &Vec<u8>, glyph: &mut GlyphRecord| -> bool
             ensures { (result
-                ≡ not (has_name (λ key. key.items) names.entry.now.keys name.now.items))
+                ≡ not (is_name_among (λ key. key.items) names.entry.now.keys name.now.items))
                 × (glyph.new ≡ glyph.old) }
         { !names.contains(name.as_slice()) },
     );

@@ -3,7 +3,8 @@ ghost use Rattle.std.specs.Prelude.{◌≡◌, ◌<◌, ◌≤◌, ◌^◌, ◌+
 ghost use Rattle.std.specs.Prelude.{if◌then◌else◌};
 ghost use Rattle.std.specs.Str.{bytes_eq};
 ghost use Rattle.indexmap.specs.IndexSet.{spare};
-ghost use Rattle.t1_run.specs.Run.{Key, key_eq};
+ghost use Rattle.t1_run.specs.Run.{Key};
+ghost use Rattle.t1_run.specs.RunKeys.{key_eq};
 ghost use Rattle.t1_cache.specs.Room.{count_at, glyph_count, subr_count, IsRoomier, MayJoin};
 ghost use Rattle.t1_cache.specs.Users.{glyph_rest, glyph_users, lists, rest_of, subr_rest};
 ghost use Rattle.t1_cache.specs.EditKeys.{key_of};

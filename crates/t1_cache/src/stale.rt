@@ -6,7 +6,7 @@ ghost use Rattle.t1_cache.specs.Found.{Closes};
 ghost use Rattle.t1_cache.specs.Laws.{AreDistinct};
 ghost use Rattle.t1_cache.specs.Tables.{is_seed, AreTables};
 ghost use Rattle.t1_run.specs.Touched.{AreStale};
-ghost use Rattle.t1_cache.specs.Users.{among, glyph_users, has_name, subr_users};
+ghost use Rattle.t1_cache.specs.Users.{among, glyph_users, is_name_among, subr_users};
 ghost use Rattle.t1_cache.specs.EditKeys.{key_of};
 
 use crate::records::{GlyphRecord, Named, Names, Records, SubrRecord};
@@ -17,8 +17,8 @@ use std::alloc::{AllocError, Global};
 fn add_users<'a>(found: &mut IndexSet<&'a [u8]>, users: &'a Names) -> Result<(), AllocError>
     ensures names { OnOk result
         ((g : List ℕ)
-        → has_name (λ name. name.now) found.new.keys g
-        ≡ (has_name (λ name. name.now) found.old.keys g || has_name (λ name. name.items)
+        → is_name_among (λ name. name.now) found.new.keys g
+        ≡ (is_name_among (λ name. name.now) found.old.keys g || is_name_among (λ name. name.items)
         users.now.keys g)) }
     ensures after { OnOk result ((more : List _) × (found.new.keys ≡ found.old.keys ++ more)) }
 {
@@ -36,8 +36,8 @@ fn add_users_of<'a>(
 ) -> Result<(), AllocError>
     ensures names { OnOk result
         ((g : List ℕ)
-        → has_name (λ name. name.now) found.new.keys g
-        ≡ (has_name (λ name. name.now) found.old.keys g || among
+        → is_name_among (λ name. name.now) found.new.keys g
+        ≡ (is_name_among (λ name. name.now) found.old.keys g || among
         (glyph_users glyphs.now.entries name.now) g)) }
     ensures after { OnOk result ((more : List _) × (found.new.keys ≡ found.old.keys ++ more)) }
 {
@@ -53,9 +53,9 @@ fn close<'a>(
     glyphs: &'a IndexMap<Vec<u8>, GlyphRecord>,
 ) -> Result<(), AllocError>
     ensures closes { OnOk result
-        (Closes (has_name (λ name. name.now) found.old.keys)
+        (Closes (is_name_among (λ name. name.now) found.old.keys)
         (λ p. among (glyph_users glyphs.now.entries p))
-        (has_name (λ name. name.now) found.new.keys)) }
+        (is_name_among (λ name. name.now) found.new.keys)) }
     ensures once { OnOk result (AreDistinct (map (λ name. name.now) found.new.keys)) }
 {
     let mut at = 0;
@@ -75,8 +75,8 @@ fn add_subr_users<'a>(
 ) -> Result<(), AllocError>
     ensures { OnOk result
         ((g : List ℕ)
-        → has_name (λ name. name.now) found.new.keys g
-        ≡ (has_name (λ name. name.now) found.old.keys g || among
+        → is_name_among (λ name. name.now) found.new.keys g
+        ≡ (is_name_among (λ name. name.now) found.old.keys g || among
         (subr_users subrs.now.entries number) g)) }
 {
     match subrs.get(&number) {
@@ -93,8 +93,8 @@ fn add_glyph<'a>(
 ) -> Result<(), AllocError>
     ensures { OnOk result
         ((g : List ℕ)
-        → has_name (λ name. name.now) found.new.keys g
-        ≡ (has_name (λ name. name.now) found.old.keys g ||
+        → is_name_among (λ name. name.now) found.new.keys g
+        ≡ (is_name_among (λ name. name.now) found.old.keys g ||
         (bytes_eq g name.now || among (glyph_users glyphs.now.entries name.now) g))) }
 {
     found.insert(name)?;
@@ -110,8 +110,8 @@ fn add_seeds<'a>(
 ) -> Result<(), AllocError>
     ensures { OnOk result
         ((g : List ℕ)
-        → has_name (λ name. name.now) found.new.keys g
-        ≡ (has_name (λ name. name.now) found.old.keys g || is_seed records.now g named.now)) }
+        → is_name_among (λ name. name.now) found.new.keys g
+        ≡ (is_name_among (λ name. name.now) found.old.keys g || is_seed records.now g named.now)) }
 {
     match named {
         Named::Subr(number) => add_subr_users(found, &records.subrs, *number),
@@ -132,7 +132,7 @@ pub fn found<'a>(
         (λ found.
         (m : FontBodies)
         → AreTables m records.now
-        → AreStale m (map key_of edits.now) (has_name (λ name. name.now) found.keys)) }
+        → AreStale m (map key_of edits.now) (is_name_among (λ name. name.now) found.keys)) }
 {
     let mut found = IndexSet::new(alloc);
     for named in edits {

@@ -3,8 +3,9 @@ ghost use Rattle.std.specs.Prelude.{◌≡◌, ◌<◌, ◌≤◌, ◌+◌, ◌&
 ghost use Rattle.std.specs.Prelude.{if◌then◌else◌};
 ghost use Rattle.std.specs.Str.{bytes_eq};
 ghost use Rattle.indexmap.specs.IndexSet.{spare};
-ghost use Rattle.t1_run.specs.Run.{Key, key_eq};
-ghost use Rattle.t1_cache.specs.Users.{among, glyph_rest, glyph_users, has_name, has_pair};
+ghost use Rattle.t1_run.specs.Run.{Key};
+ghost use Rattle.t1_run.specs.RunKeys.{key_eq};
+ghost use Rattle.t1_cache.specs.Users.{among, glyph_rest, glyph_users, is_name_among, has_pair};
 ghost use Rattle.t1_cache.specs.EditKeys.{key_of};
 ghost use Rattle.t1_cache.specs.Users.{lists, rest_of, subr_rest, subr_users, users_at};
 ghost use Rattle.t1_cache.specs.Users.{pairs_of_key};
@@ -16,8 +17,8 @@ use indexmap::IndexMap;
 /// Takes a name out. It takes no memory and can't fail.
 fn take_out(names: &mut Names, name: &[u8])
     ensures names { (u : List ℕ)
-        → has_name (λ k. k.items) names.new.keys u
-        ≡ (has_name (λ k. k.items) names.old.keys u && not (bytes_eq u name.now)) }
+        → is_name_among (λ k. k.items) names.new.keys u
+        ≡ (is_name_among (λ k. k.items) names.old.keys u && not (bytes_eq u name.now)) }
     ensures room { spare names.old ≤ spare names.new }
 {
     names.swap_remove(name);
@@ -27,8 +28,8 @@ fn take_out(names: &mut Names, name: &[u8])
 fn put_in(names: &mut Names, name: Vec<u8>)
     requires { 0 < spare names.old }
     ensures names { (u : List ℕ)
-        → has_name (λ k. k.items) names.new.keys u
-        ≡ (has_name (λ k. k.items) names.old.keys u || bytes_eq u name.items) }
+        → is_name_among (λ k. k.items) names.new.keys u
+        ≡ (is_name_among (λ k. k.items) names.old.keys u || bytes_eq u name.items) }
     ensures room { spare names.old ≤ spare names.new + 1 }
 {
     names.insert(name).unwrap();

@@ -3,11 +3,12 @@ ghost use Rattle.std.specs.Prelude.{◌≡◌, ◌&&◌, ◌||◌, [], ℕ, List
 ghost use Rattle.std.specs.Prelude.{option_map};
 ghost use Rattle.std.specs.Str.{bytes_eq};
 ghost use Rattle.t1_run.specs.Footprint.{asks};
-ghost use Rattle.t1_run.specs.Run.{Key, key_eq};
+ghost use Rattle.t1_run.specs.Run.{Key};
+ghost use Rattle.t1_run.specs.RunKeys.{key_eq};
 ghost use Rattle.t1_run.specs.Touched.{is_user};
 ghost use Rattle.t1_font.specs.Runs.{drawing_in};
 ghost use Rattle.t1_cache.specs.Renewed.{recorded_run};
-ghost use Rattle.t1_cache.specs.Users.{has_name, has_pair};
+ghost use Rattle.t1_cache.specs.Users.{is_name_among, has_pair};
 ghost use Rattle.t1_cache.specs.EditKeys.{key_of};
 
 use crate::records::{Named, Records};
@@ -103,7 +104,7 @@ pub fn leaves_of(
         (λ pairs.
         (k : Key) (u : List ℕ)
         → has_pair pairs.items k u
-        ≡ (has_name (λ name. name.now) names.now u && is_user k
+        ≡ (is_name_among (λ name. name.now) names.now u && is_user k
         (recorded_run records.now u))) }
 {
     let mut pairs = Vec::new(alloc);
@@ -139,7 +140,7 @@ pub fn joins_of(
         (λ pairs.
         (k : Key) (u : List ℕ)
         → has_pair pairs.items k u
-        ≡ (has_name (λ name. name.now) names.now u && is_user k (drawing_in runs.now u))) }
+        ≡ (is_name_among (λ name. name.now) names.now u && is_user k (drawing_in runs.now u))) }
 {
     let mut pairs = Vec::new(alloc);
     for name in names {

@@ -10,7 +10,7 @@ use Rattle.t1_frac.specs.Outcome.{fault_at, ◌>>=◌}
 use Rattle.t1_parts.specs.declared.item.Item.{Item}
 use Rattle.t1_parts.specs.declared.item.Item.TheVariants.{Plain, Section, Subr, Glyph}
 use Rattle.t1_parts.specs.Counts.{raised_item}
-use Rattle.t1_parts.specs.Items.{line_says, stands_alone}
+use Rattle.t1_parts.specs.Stretches.{line_says, stands_alone}
 use Rattle.t1_parts.specs.LenIV.{says_lead}
 use Rattle.t1_font.specs.Bodies.{bodies_check, body_check, glyph_among, glyph_in, subr_among, subr_in}
 use Rattle.t1_charstrings.specs.Raising.{is_raised_counted, raised_check, raised_text}

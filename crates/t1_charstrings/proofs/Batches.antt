@@ -10,7 +10,8 @@ use Rattle.t1_parts.specs.LenIV.{lead}
 use Rattle.t1_parts.specs.Operator.{operator}
 use Rattle.t1_parts.specs.SourceParts.{SourceParts}
 use Rattle.t1_run.specs.Footprint.{Includes}
-use Rattle.t1_run.specs.Run.{Key, body_at, key_eq}
+use Rattle.t1_run.specs.Run.{Key}
+use Rattle.t1_run.specs.RunKeys.{body_at, key_eq}
 use Rattle.t1_font.specs.Bodies.{bodies}
 use Rattle.t1_font.proofs.Keeping.{lookup-taken}
 use Rattle.t1_charstrings.specs.declared.edited.EditedEntries.{EditedEntries}

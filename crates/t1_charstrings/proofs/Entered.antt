@@ -27,7 +27,8 @@ use Rattle.t1_source.specs.Editing.{with_items}
 use Rattle.t1_source.specs.WellFormed.{IsWellFormed, is_counted}
 use Rattle.t1_source.proofs.ChangeLaws.{raised_put, raised_removed}
 use Rattle.t1_source.proofs.EditedCountLaws.{set_counted}
-use Rattle.t1_run.specs.Run.{Key, Subr, Glyph, body_at, key_eq}
+use Rattle.t1_run.specs.Run.{Key, Subr, Glyph}
+use Rattle.t1_run.specs.RunKeys.{body_at, key_eq}
 use Rattle.t1_font.specs.Assembly.{counts_check, file_check, length_check}
 use Rattle.t1_font.specs.Bodies.{bodies, bodies_check, body_check, words_check}
 use Rattle.t1_font.proofs.Compiling.{reported-ok}

@@ -16,7 +16,8 @@ use Rattle.t1_parts.specs.Counts.{raised_item}
 use Rattle.t1_parts.specs.LenIV.{lead, said_lead}
 use Rattle.t1_parts.specs.SourceParts.{SourceParts}
 use Rattle.t1_source.specs.WellFormed.{is_counted}
-use Rattle.t1_run.specs.Run.{Key, Subr, Glyph, body_at, key_eq}
+use Rattle.t1_run.specs.Run.{Key, Subr, Glyph}
+use Rattle.t1_run.specs.RunKeys.{body_at, key_eq}
 use Rattle.t1_font.specs.Bodies.{bodies, bodies_check, body_check, glyph_in, subr_in}
 use Rattle.t1_charstrings.specs.declared.entries.Charstrings.{Charstrings}
 use Rattle.t1_charstrings.specs.Changed.{Sets}

@@ -15,7 +15,8 @@ use Rattle.t1_parts.specs.SourceParts.{SourceParts}
 use Rattle.t1_source.specs.Editing.{with_items}
 use Rattle.t1_source.specs.WellFormed.{IsWellFormed, is_counted}
 use Rattle.t1_source.proofs.WellFormedSourceLaws.{raised_said}
-use Rattle.t1_run.specs.Run.{Key, Subr, Glyph, body_at}
+use Rattle.t1_run.specs.Run.{Key, Subr, Glyph}
+use Rattle.t1_run.specs.RunKeys.{body_at}
 use Rattle.t1_font.specs.Assembly.{counts_check, file_check}
 use Rattle.t1_font.specs.Bodies.{bodies, bodies_check}
 use Rattle.t1_charstrings.specs.declared.entries.Charstrings.{Charstrings}

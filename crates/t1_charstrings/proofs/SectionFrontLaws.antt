@@ -9,7 +9,7 @@ use Rattle.t1_parts.specs.declared.item.Item.{Item}
 use Rattle.t1_parts.specs.declared.item.Item.TheVariants.{Plain, Section, Subr, Glyph}
 use Rattle.t1_parts.specs.Counts.{raised_item}
 use Rattle.t1_parts.specs.EntryKeys.{is_section}
-use Rattle.t1_parts.specs.Items.{stands_alone}
+use Rattle.t1_parts.specs.Stretches.{stands_alone}
 use Rattle.t1_charstrings.specs.Raising.{is_raised_counted, raised_check, raised_text}
 use Rattle.t1_charstrings.specs.Sums.{section_line, section_lines_text}
 use Rattle.t1_charstrings.proofs.AloneLaws.{sections_alone, raised_alone}

@@ -22,7 +22,8 @@ use Rattle.t1_code.specs.Charstring.{charstring}
 use Rattle.t1_code.specs.Cipher.{encrypted_charstring}
 use Rattle.t1_code.specs.Pfb.{entry_text}
 use Rattle.t1_code.specs.Words.{commands}
-use Rattle.t1_run.specs.Run.{Key, Subr, Glyph, body_at}
+use Rattle.t1_run.specs.Run.{Key, Subr, Glyph}
+use Rattle.t1_run.specs.RunKeys.{body_at}
 use Rattle.t1_run.proofs.Asked.{eq_self}
 use Rattle.t1_font.specs.Assembly.{entry_line as font_line, item_line, private_text}
 use Rattle.t1_font.specs.Bodies.{bodies, bodies_check, body_check, glyph_among, glyph_in, subr_among, subr_in, words_check}

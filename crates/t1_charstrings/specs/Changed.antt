@@ -1,6 +1,7 @@
 -- What is kept, changed at one key.
 use Rattle.std.specs.Prelude.{◌≡◌, Option, if◌then◌else◌}
-use Rattle.t1_run.specs.Run.{Key, key_eq}
+use Rattle.t1_run.specs.Run.{Key}
+use Rattle.t1_run.specs.RunKeys.{key_eq}
 use Rattle.t1_charstrings.specs.declared.entries.Charstrings.{Charstrings}
 use Rattle.t1_charstrings.specs.Entries.{KeptCharstring}
 use Rattle.t1_charstrings.specs.Kept.{charstring_at}

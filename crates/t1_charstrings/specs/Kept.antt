@@ -3,7 +3,8 @@ use Rattle.std.specs.Prelude.{◌≡◌, ℕ, Option, Ok}
 use Rattle.std.specs.Option.{option_map}
 use Rattle.t1_parts.specs.LenIV.{lead}
 use Rattle.t1_parts.specs.SourceParts.{SourceParts}
-use Rattle.t1_run.specs.Run.{FontBodies, Key, Subr, Glyph, body_at}
+use Rattle.t1_run.specs.Run.{FontBodies, Key, Subr, Glyph}
+use Rattle.t1_run.specs.RunKeys.{body_at}
 use Rattle.t1_font.specs.Bodies.{bodies, bodies_check}
 use Rattle.t1_charstrings.specs.declared.entries.Charstrings.{Charstrings}
 use Rattle.t1_charstrings.specs.Entries.{KeptCharstring, encrypted, glyph_charstring, subr_charstring}

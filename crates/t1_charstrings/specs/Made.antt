@@ -6,7 +6,7 @@ use Rattle.t1_parts.specs.SourceParts.{SourceParts}
 use Rattle.t1_pairs.specs.declared.pairs.Pair.{Pair}
 use Rattle.t1_source.specs.declared.editing.change.Change.{Change}
 use Rattle.t1_source.specs.declared.editing.change.Change.TheVariants as changes
-use Rattle.t1_source.specs.Changes.{changed, Serves}
+use Rattle.t1_source.specs.Changes.{changed, Suits}
 use Rattle.t1_source.specs.WellFormed.{IsWellFormed}
 use Rattle.t1_font.specs.Assembly.{file_check}
 use Rattle.t1_font.specs.Lengths.{IsPrivateLen}
@@ -53,7 +53,7 @@ may_set_lead (made.Batch source made) = not (nat_eq (lead made.now) (lead source
 -- word, edits: the change can be made of the source, beside some pairs
 pub record IsFor (change : Change) (s : SourceParts) : Type 0 where
   pub pairs : List Pair
-  pub serves : Serves change s pairs
+  pub serves : Suits change s pairs
   pub well : IsWellFormed s
 
 -- word, edits: the source is one that edits make

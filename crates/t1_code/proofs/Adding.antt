@@ -7,7 +7,8 @@ use Rattle.t1_frac.specs.declared.fault.Code.{Code}
 use Rattle.t1_code.specs.declared.command.Command.{Command}
 use Rattle.t1_code.specs.Words.{command_then}
 use Rattle.t1_frac.specs.Outcome.{◌>>=◌}
-use Rattle.t1_code.specs.Charstring.{charstring, command_bytes, charstring_onto, onto}
+use Rattle.t1_code.specs.Charstring.{charstring, command_bytes}
+use Rattle.t1_code.specs.Appending.{charstring_onto, onto}
 use Rattle.t1_code.specs.Cipher.{cipher}
 
 -- one more command

@@ -11,7 +11,8 @@ use Rattle.std.specs.Prelude.{codes}
 use Rattle.std.specs.Str.{bytes_eq}
 use Rattle.t1_code.specs.declared.command.Command.{Command}
 use Rattle.t1_code.specs.declared.command.Command.TheVariants.{RRCurveTo, RLineTo, HLineTo, VLineTo, VHCurveTo, HVCurveTo, RMoveTo, HMoveTo, VMoveTo, ClosePath, CallSubr, HStem, VStem, Hsbw, EndChar, Return, CallOtherSubr, Pop, Div, HStem3, VStem3, DotSection, SetCurrentPoint, Seac, Sbw}
-use Rattle.t1_code.specs.Words.{first_word, operator_named, operator_words}
+use Rattle.t1_code.specs.Words.{operator_named, operator_words}
+use Rattle.t1_code.specs.FoundCommands.{first_word}
 use Rattle.t1_code.proofs.Tables.{StandIn, same_found}
 
 -- those that draw stand first

@@ -4,7 +4,8 @@ use Rattle.std.proofs.lemmas.List.{length-take, take-append-le}
 use Rattle.std.specs.Prelude.{[], Result, Ok, Err}
 use Rattle.t1_frac.specs.declared.fault.Code.{Code}
 use Rattle.t1_code.specs.declared.command.Command.{Command}
-use Rattle.t1_code.specs.Words.{after_others, command_then}
+use Rattle.t1_code.specs.Words.{command_then}
+use Rattle.t1_code.specs.FoundCommands.{after_others}
 
 -- after nothing they are the commands alone
 pub after_nothing : (read : Result (List Command) Code) → after_others [] read ≡ read

@@ -12,7 +12,8 @@ use Rattle.std.proofs.lemmas.List.Sums.{prefix_len-le-length}
 use Rattle.std.proofs.Math.Numerals.{one-add}
 use Rattle.t1_frac.proofs.WordLaws.{front_stays, no_word_at, word_at, word_shortens}
 use Rattle.t1_frac.specs.Words.{is_blank, trimmed_front, word_goes_on, words}
-use Rattle.t1_code.specs.Words.{first_word, in_32_bits, number_command, number_of_word, operator_named, operator_words, or_unknown, command_of_word, command_then, commands_of_words}
+use Rattle.t1_code.specs.Words.{in_32_bits, number_command, number_of_word, operator_named, operator_words, or_unknown, command_of_word, command_then, commands_of_words}
+use Rattle.t1_code.specs.FoundCommands.{first_word}
 use Rattle.t1_frac.specs.Numbers.{digits_of_word, is_number_word, number_written, signed, decimal_value}
 use Rattle.t1_code.specs.declared.command.Command.{Command}
 use Rattle.t1_code.specs.declared.command.Command.TheVariants.{Div}

@@ -8,7 +8,8 @@ use Rattle.std.specs.Io.KnownBytes.{Appends, Keeps}
 use Rattle.t1_frac.specs.declared.fault.Fault.{Fault}
 use Rattle.t1_code.specs.declared.parts.OutError.TheVariants as out
 use Rattle.t1_code.specs.Parts.{PassesFile, Prints}
-use Rattle.t1_code.specs.Counted.{Tally, WritesAll, WritesFront, Outlet, outlet, Passes, Stops, Puts, Writes, one_more}
+use Rattle.t1_code.specs.Counted.{Tally, WritesAll, WritesFront, one_more}
+use Rattle.t1_code.specs.Writing.{Outlet, outlet, Passes, Stops, Puts, Writes}
 
 -- where a text has no byte
 pub nothing_left : (rest : List ℕ) → nat_eq (length rest) 0 ≡ true → rest ≡ []

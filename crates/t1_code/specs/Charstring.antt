@@ -1,5 +1,5 @@
 -- Charstring code: the bytes of commands and numbers, and the grammar of such bytes.
-use Rattle.std.specs.Prelude.{◌≡◌, ℕ, ◌+◌, ◌-◌, ◌*◌, ◌/◌, ◌%◌, ◌<◌, ◌≤◌, ◌⊎◌, ℤ, pos, negsuc, neg_ℤ, ◌-ℤ◌, nat_le, if◌then◌else◌, List, [], ◌∷◌, ◌++◌, FitsSigned, Result, Ok, Err}
+use Rattle.std.specs.Prelude.{◌≡◌, ℕ, ◌+◌, ◌-◌, ◌*◌, ◌/◌, ◌%◌, ◌<◌, ◌≤◌, ◌⊎◌, ℤ, pos, negsuc, neg_ℤ, ◌-ℤ◌, nat_le, if◌then◌else◌, List, [], ◌∷◌, ◌++◌, FitsSigned, Result, Ok}
 use Rattle.std.specs.List.{flat_map, AllByRecursion}
 use Rattle.std.specs.Int.{w32, to_be_bytes, cast_unsigned, cast_signed}
 use Rattle.t1_frac.specs.declared.fault.Code.{Code}
@@ -68,16 +68,6 @@ charstring commands = flat_map command_bytes commands
 -- profile: the charstring of a body's words, or the fault of the words
 abbrev pub charstring_of_words : List (List ℕ) → Result (List ℕ) Code
 charstring_of_words words = commands words >>= λ read. Ok (charstring read)
-
--- word: code that is added after other code
-abbrev pub onto : List ℕ → Result (List ℕ) Code → Result (List ℕ) Code
-onto front (Ok code) = Ok (front ++ code)
-onto front (Err fault) = Err fault
-
--- word: the charstring of commands, added after other code
-abbrev pub charstring_onto : List ℕ → Result (List Command) Code → Result (List ℕ) Code
-charstring_onto front (Ok commands) = Ok (front ++ charstring commands)
-charstring_onto front (Err fault) = Err fault
 
 -- Type 1 Font Format, Chapter 6 (charstring number encoding): which bytes spell which number, by the first byte v, in each of its forms
 abbrev pub SpellsNumber : List ℕ → ℤ → Type 0

@@ -1,9 +1,8 @@
 -- StandardEncoding (PostScript Language Reference, Appendix E).
-use Rattle.std.specs.Prelude.{ℕ, map, List, [], ◌∷◌, codes, nat_eq, Bool, Option}
+use Rattle.std.specs.Prelude.{ℕ, List, [], ◌∷◌, codes, nat_eq, Bool, Option}
 use Rattle.std.specs.List.{list_any}
 use Rattle.std.specs.Map.{lookup}
 use Rattle.std.specs.Str.{bytes_eq}
-use Rattle.std.specs.Borrow.{Bor}
 
 -- PostScript Language Reference, Appendix E (StandardEncoding): each code that has a name, and the name
 unfoldable pub standard_names : List (ℕ × List ℕ)
@@ -163,14 +162,6 @@ standard_names =
 unfoldable pub standard_name : ℕ → Option (List ℕ)
 standard_name code = lookup (nat_eq code) standard_names
 
--- word: the same in a table of the code
-abbrev pub named_in : List (ℕ × Bor (List ℕ)) → ℕ → Option (List ℕ)
-named_in table code = lookup (nat_eq code) (map (λ row. (row.0, row.1.now)) table)
-
 -- PostScript Language Reference, Appendix E (StandardEncoding): some code has the name
 unfoldable pub is_standard_name : List ℕ → Bool
 is_standard_name name = list_any (λ (row : ℕ × List ℕ). bytes_eq row.1 name) standard_names
-
--- word: the same in a table of the code
-abbrev pub has_name : List (ℕ × Bor (List ℕ)) → List ℕ → Bool
-has_name table name = list_any (λ (row : ℕ × List ℕ). bytes_eq row.1 name) (map (λ row. (row.0, row.1.now)) table)

@@ -1,11 +1,15 @@
+pub mod Appending
 pub mod Charstring
 pub mod Cipher
 pub mod Counted
 pub mod Eexec
 pub mod Encoding
+pub mod EncodingRows
+pub mod FoundCommands
 pub mod Hexadecimal
 pub mod Parts
 pub mod Pfa
 pub mod Pfb
 pub mod Segments
 pub mod Words
+pub mod Writing

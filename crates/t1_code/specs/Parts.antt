@@ -11,7 +11,8 @@ use Rattle.t1_code.specs.declared.parts.OutError.TheVariants as out
 use Rattle.t1_code.specs.declared.parts.Parts.{Parts}
 use Rattle.t1_code.specs.declared.parts.Piece.{Piece}
 use Rattle.t1_code.specs.declared.parts.Piece.TheVariants.{Plain, Entry}
-use Rattle.t1_code.specs.Counted.{Outlet, Tally, Passes, Stops, WritesAll, WritesFront}
+use Rattle.t1_code.specs.Counted.{Tally, WritesAll, WritesFront}
+use Rattle.t1_code.specs.Writing.{Outlet, Passes, Stops}
 use Rattle.t1_code.specs.Pfa.{pfa_of}
 use Rattle.t1_code.specs.Pfb.{entry_text, pfb_of}
 

@@ -1,12 +1,8 @@
 -- The words of a charstring: numbers and commands.
-use Rattle.std.specs.Prelude.{◌≡◌, ℕ, ◌^◌, ℤ, pos, negsuc, Bool, true, not, nat_lt, if◌then◌else◌, List, [], ◌∷◌, ◌++◌, take, drop, length, codes, Option, None, Some, Result, Ok, Err}
+use Rattle.std.specs.Prelude.{ℕ, ◌^◌, ℤ, pos, negsuc, Bool, nat_lt, if◌then◌else◌, List, [], ◌∷◌, length, codes, Option, None, Some, Result, Ok, Err}
 use Rattle.std.specs.Map.{lookup}
-use Rattle.std.specs.Borrow.{Bor}
 use Rattle.std.specs.Str.{bytes_eq}
-use Rattle.std.specs.List.{position_or_len, list_all}
-use Rattle.std.specs.Option.{MatchOption}
 use Rattle.t1_frac.specs.Numbers.{is_number_word, number_written}
-use Rattle.t1_frac.specs.Words.{is_blank}
 use Rattle.t1_frac.specs.declared.fault.Code.{Code}
 use Rattle.t1_frac.specs.declared.fault.Code.TheVariants.{F20, F21, F22}
 use Rattle.t1_code.specs.declared.command.Command.{Command}
@@ -20,10 +16,6 @@ fits_32_bits (negsuc n) = nat_lt n (2 ^ 31)
 -- profile: a number that doesn't fit is a fault
 abbrev pub in_32_bits : ℤ → Result ℤ Code
 in_32_bits n = if fits_32_bits n then Ok n else Err F21
-
--- word, words: the bytes in front of the first blank
-abbrev pub first_word : List ℕ → List ℕ
-first_word text = take (position_or_len is_blank text) text
 
 -- profile: the number that a number word writes, where it fits 32 bits
 unfoldable pub number_of_word : List ℕ → Result ℤ Code
@@ -63,22 +55,6 @@ operator_words =
 unfoldable pub operator_named : List ℕ → Option Command
 operator_named word = lookup (bytes_eq word) operator_words
 
--- word: a word, which has no blank, names this command
-abbrev pub IsWordOf : Command → List ℕ → Type 0
-IsWordOf command word = (list_all (λ c. not (is_blank c)) word ≡ true) × (operator_named word ≡ Some command)
-
--- word, words: the bytes past the first word and the blank that ends it
-abbrev pub past_first_word : List ℕ → List ℕ
-past_first_word text = drop 1 (drop (position_or_len is_blank text) text)
-
--- word: what is found is the command that the first word names, where it names one, and the bytes past the word
-abbrev pub FindsCommand : List ℕ → Option (Command × Bor (List ℕ)) → Type 0
-FindsCommand text found =
-    MatchOption
-    found
-    (operator_named (first_word text) ≡ None)
-    (λ it. (operator_named (first_word text) ≡ Some it.0) × (it.1.now ≡ past_first_word text))
-
 -- profile: a number among commands
 abbrev pub number_command : Result ℤ Code → Result Command Code
 number_command (Ok n) = Ok (Num n)
@@ -103,11 +79,6 @@ command_then (Err code) rest = Err code
 abbrev pub commands_of_words : List (List ℕ) → Result (List Command) Code
 commands_of_words [] = Ok []
 commands_of_words (word ∷ words) = command_then (command_of_word word) (commands_of_words words)
-
--- word: commands after others, or their fault
-abbrev pub after_others : List Command → Result (List Command) Code → Result (List Command) Code
-after_others others (Ok commands) = Ok (others ++ commands)
-after_others others (Err code) = Err code
 
 -- profile: a body has at most 65,535 words, and its length is judged before its words
 unfoldable pub commands : List (List ℕ) → Result (List Command) Code

@@ -4,7 +4,8 @@ ghost use Rattle.t1_frac.specs.Outcome.{Gives, reported_at};
 ghost use Rattle.t1_frac.specs.Words.{words as words_of};
 ghost use Rattle.t1_frac.specs.declared.fault.Place.TheVariants.{Nowhere};
 ghost use Rattle.t1_code.specs.Words.{commands_of_words};
-ghost use Rattle.t1_code.specs.Charstring.{charstring_of_words, charstring_onto, onto};
+ghost use Rattle.t1_code.specs.Charstring.{charstring_of_words};
+ghost use Rattle.t1_code.specs.Appending.{charstring_onto, onto};
 ghost use Rattle.t1_code.specs.Cipher.{encrypted_words};
 
 use crate::charstring::push_command;

@@ -1,7 +1,7 @@
 //! Bytes on their way to a writer, which is handed a chunk of them at a time.
 ghost use Rattle.std.specs.Prelude.{◌≡◌, ◌<◌, ◌≤◌, ◌+◌, [], ◌++◌, true, false, length, take, OnOk};
 ghost use Rattle.t1_code.specs.Cipher.{cipher as encrypted, key_after};
-ghost use Rattle.t1_code.specs.Counted.{Puts, Writes, outlet};
+ghost use Rattle.t1_code.specs.Writing.{Puts, Writes, outlet};
 ghost use Rattle.t1_code.specs.Parts.{slices_bytes};
 
 use crate::cipher::Cipher;

@@ -2,7 +2,8 @@
 ghost use Rattle.std.specs.Prelude.{◌≡◌, ◌≤◌, ◌<◌, true, false, [], length, IfOk, IsOk, IsErr};
 ghost use Rattle.std.specs.Io.{ReadsAtMost};
 ghost use Rattle.std.specs.Io.KnownBytes.{Keeps, ReadConsumes, WriteAppends};
-ghost use Rattle.t1_code.specs.Counted.{Tally, failures_after, turns_after, max_turns, Writes};
+ghost use Rattle.t1_code.specs.Counted.{Tally};
+ghost use Rattle.t1_code.specs.Writing.{failures_after, turns_after, max_turns, Writes};
 
 use std::io::{self, ErrorKind, Read, Write};
 use std::marker::Model;

@@ -1,7 +1,8 @@
 //! The names of StandardEncoding.
 ghost use Rattle.std.specs.Prelude.{◌≡◌, map, option_map};
-ghost use Rattle.t1_code.specs.Encoding.{standard_name as name_of, named_in};
-ghost use Rattle.t1_code.specs.Encoding.{is_standard_name as is_named, has_name, standard_names};
+ghost use Rattle.t1_code.specs.Encoding.{standard_name as name_of};
+ghost use Rattle.t1_code.specs.EncodingRows.{named_in, has_name};
+ghost use Rattle.t1_code.specs.Encoding.{is_standard_name as is_named, standard_names};
 
 /// Each code of StandardEncoding that has a name, and the name.
 const NAMES: [(u8, &str); 149] = [

@@ -3,7 +3,7 @@ ghost use Rattle.std.specs.Prelude.{◌≡◌, true, false, not, drop, length, M
 ghost use Rattle.std.specs.List.{list_all, position_or_len};
 ghost use Rattle.std.specs.Str.{bytes_eq};
 ghost use Rattle.t1_frac.specs.Words.{is_blank, word_goes_on};
-ghost use Rattle.t1_code.specs.Words.{first_word};
+ghost use Rattle.t1_code.specs.FoundCommands.{first_word};
 
 use t1_frac::is_blank;
 

@@ -11,7 +11,7 @@ use std::io::Write;
 pub trait FileForm {
     ghost use Rattle.std.specs.Prelude.{ℕ, List, Result};
     ghost use Rattle.t1_frac.specs.declared.fault.Fault.{Fault};
-    ghost use Rattle.t1_code.specs.Counted.{outlet};
+    ghost use Rattle.t1_code.specs.Writing.{outlet};
     ghost use Rattle.t1_code.specs.Parts.{pieces_text, PassesFile};
 
     ghost file: { Self → List ℕ → List ℕ → List ℕ → Result (List ℕ) Fault };

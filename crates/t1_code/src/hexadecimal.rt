@@ -1,6 +1,6 @@
 //! Bytes in lines of hexadecimal digits.
 ghost use Rattle.std.specs.Prelude.{◌≡◌, ◌<◌, [], ◌∷◌, OnOk};
-ghost use Rattle.t1_code.specs.Counted.{Puts, outlet};
+ghost use Rattle.t1_code.specs.Writing.{Puts, outlet};
 ghost use Rattle.t1_code.specs.Hexadecimal.{in_lines, line_end_due, next_room, refilled};
 ghost use Rattle.t1_code.specs.Hexadecimal.{room_after};
 ghost use Rattle.t1_code.specs.Pfa.{hexadecimal_digit, digits_of_byte};

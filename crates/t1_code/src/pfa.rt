@@ -2,7 +2,7 @@
 ghost use Rattle.std.specs.Prelude.{◌≢◌, Err};
 ghost use Rattle.std.specs.List.{flat_map};
 ghost use Rattle.t1_code.specs.Cipher.{eexec};
-ghost use Rattle.t1_code.specs.Counted.{Puts, outlet};
+ghost use Rattle.t1_code.specs.Writing.{Puts, outlet};
 ghost use Rattle.t1_code.specs.Parts.{piece_text, pieces_text, hexadecimal_file_of, Prints};
 ghost use Rattle.t1_code.specs.Pfa.{hexadecimal_lines, pfa};
 

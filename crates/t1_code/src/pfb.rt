@@ -1,7 +1,7 @@
 //! The PFB file, written part by part.
 ghost use Rattle.std.specs.Prelude.{◌≡◌, ◌≢◌, Err, ◌-◌, ◌^◌, ◌<◌, ◌≤◌, length};
 ghost use Rattle.t1_code.specs.Cipher.{eexec};
-ghost use Rattle.t1_code.specs.Counted.{Puts, outlet};
+ghost use Rattle.t1_code.specs.Writing.{Puts, outlet};
 ghost use Rattle.t1_code.specs.Parts.{pieces_text, file_of, Prints};
 ghost use Rattle.t1_code.specs.Pfb.{pfb};
 

@@ -1,6 +1,6 @@
 //! A part of a PFB file, cut into segments.
 ghost use Rattle.std.specs.Prelude.{◌≡◌, ◌^◌, ◌<◌, ◌≤◌, min, IfOk, OnOk};
-ghost use Rattle.t1_code.specs.Counted.{Puts, outlet};
+ghost use Rattle.t1_code.specs.Writing.{Puts, outlet};
 ghost use Rattle.t1_code.specs.Segments.{Segmenting, head_due, segment_opened, in_segments};
 ghost use Rattle.t1_code.specs.Segments.{segmenting_after};
 ghost use Rattle.t1_code.specs.Pfb.{segment_head as head, segments};

@@ -1,7 +1,7 @@
 //! What commands are answered, and how it is written.
 ghost use Rattle.std.specs.Prelude.{◌≡◌, ◌∷◌, ◌++◌, [], decimal, length, OnOk};
 ghost use Rattle.t1_frac.specs.Ascii.{line_feed};
-ghost use Rattle.t1_code.specs.Counted.{Writes};
+ghost use Rattle.t1_code.specs.Writing.{Writes};
 ghost use Rattle.t1_code.specs.Parts.{slices_bytes};
 ghost use Rattle.t1_commands.specs.Answering.{Answers};
 ghost use Rattle.t1_commands.specs.AnswerTexts.{rule_name, code_name, place_text};

@@ -1,6 +1,6 @@
 //! Files as the data of an answer: after their length, and not made in memory.
 ghost use Rattle.std.specs.Prelude.{◌≡◌, ◌≤◌, ◌-◌, ◌^◌, Ok};
-ghost use Rattle.t1_code.specs.Counted.{Puts, outlet};
+ghost use Rattle.t1_code.specs.Writing.{Puts, outlet};
 ghost use Rattle.t1_code.specs.Parts.{PassesFile, length_of, pieces_text};
 ghost use Rattle.t1_commands.specs.AnswerParts.{data_of, data_head};
 

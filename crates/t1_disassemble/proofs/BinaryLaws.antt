@@ -15,7 +15,7 @@ use Rattle.t1_disassemble.specs.Digits.{is_hexadecimal, digits_len}
 use Rattle.t1_disassemble.specs.Disassembly.{coded_place, tail_after}
 use Rattle.t1_disassemble.specs.Front.{is_space, past_spaces}
 use Rattle.t1_disassemble.specs.Kinds.{single_sections}
-use Rattle.t1_disassemble.specs.Outcome.{fault_at, reported_at}
+use Rattle.t1_disassemble.specs.Outcome.{font_fault_at, font_reported_at}
 use Rattle.t1_disassemble.specs.PiecesOnto.{private_onto}
 use Rattle.t1_disassemble.specs.SegmentsRead.{FontParts}
 use Rattle.t1_disassemble.specs.Settings.{reading_operator, leading_bytes}
@@ -47,8 +47,8 @@ digits_none : {X : Type 0} (place : ℕ) (coded : List ℕ) (read : Result X Fon
 digits_none place coded (Ok x) off = refl
 digits_none place coded (Err fault) off =
     let cut : is_cut coded ≡ false = ap (λ b. b && nat_lt (digits_len coded) (length coded)) off in
-    ap (λ b. Err (if is_early fault.code && b then fault_at (Byte (place + digits_len coded)) D3 else fault)) cut
-    ∙ ap (λ b. Err (if b then fault_at (Byte (place + digits_len coded)) D3 else fault)) (and_none (is_early fault.code))
+    ap (λ b. Err (if is_early fault.code && b then font_fault_at (Byte (place + digits_len coded)) D3 else fault)) cut
+    ∙ ap (λ b. Err (if b then font_fault_at (Byte (place + digits_len coded)) D3 else fault)) (and_none (is_early fault.code))
 
 -- ---- the source of such a part
 
@@ -68,7 +68,7 @@ binary_same text clear segments tail coded off some =
     let read = λ (lead : ℕ). private_onto (reading_operator (lines plain)) lead text false plain in
     let left = λ (private : List ℕ × List ℕ). tail_after parts coded (4 + (length plain - length private.1)) in
     ap (λ (b : List ℕ). plain_onto text parts coded (decrypted_private b)) (unchanged coded off)
-    ∙ same_after (reported_at Nowhere (leading_bytes (lines plain)))
+    ∙ same_after (font_reported_at Nowhere (leading_bytes (lines plain)))
     (λ lead. with_digits (coded_place parts coded) coded (read lead) >>= λ private. with_tail text (left private) private)
     (λ lead. read lead >>= λ private. with_tail text tail private)
     (λ lead.

@@ -16,7 +16,7 @@ use Rattle.t1_disassemble.specs.Decipher.{deciphered, decrypted_private}
 use Rattle.t1_disassemble.specs.Digits.{is_hexadecimal}
 use Rattle.t1_disassemble.specs.Disassembly.{coded_bytes, after_coded, tail_after, source_of, disassembled}
 use Rattle.t1_disassemble.specs.Front.{after_eexec, past_spaces}
-use Rattle.t1_disassemble.specs.Laws.{plain_item, items_text, source_lines, raw, IsReadBack}
+use Rattle.t1_disassemble.specs.Laws.{plain_item, items_text, source_lines, raw_file, IsReadBack}
 use Rattle.t1_disassemble.specs.PiecesOnto.{private_onto}
 use Rattle.t1_disassemble.specs.SegmentsRead.{FontParts, font_parts}
 use Rattle.t1_disassemble.specs.SourceOnto.{plain_onto, source_onto}
@@ -81,7 +81,7 @@ dropped coded count off = rw off refl
 
 pub raw_again : (clear : List (List ℕ)) (operator : List ℕ) (lead : ℕ) (items : List Item) (last bytes trailer : List ℕ) → IsReadBack clear operator lead items last → items_text lead operator items ≡ Ok bytes
     → begins_with 128 (joined clear) ≡ false
-    → disassembled (raw (joined clear) (bytes ++ (last ++ 10 ∷ [])) trailer)
+    → disassembled (raw_file (joined clear) (bytes ++ (last ++ 10 ∷ [])) trailer)
     ≡ Ok ((joined clear ++ joined (flat_map item_lines (map plain_item items) ++ last ∷ [])) ++ joined (tail_of (lines trailer)))
 raw_again clear operator lead items last bytes trailer is made no_mark =
     let private = private_of bytes last in

@@ -9,7 +9,7 @@ use Rattle.t1_disassemble.specs.declared.fault.FontCode.{FontCode}
 use Rattle.t1_disassemble.specs.declared.fault.FontFault.{FontFault}
 use Rattle.t1_disassemble.specs.declared.fault.FontPlace.TheVariants.{Byte}
 use Rattle.t1_disassemble.specs.InPlace.{tailless, IsFront}
-use Rattle.t1_disassemble.specs.Outcome.{reported_at}
+use Rattle.t1_disassemble.specs.Outcome.{font_reported_at}
 use Rattle.t1_disassemble.specs.SegmentsRead.{Segment, FontParts, cut_segment, segment_after, some_found, typed_segment, segment_at, placed_segment, segments_of, parts_onto, with_segment, no_parts}
 use Rattle.t1_disassemble.proofs.Segmented.{parts_more, parts_after}
 
@@ -119,7 +119,7 @@ one_put : (parts : FontParts) (total : ℕ) (bytes : List ℕ) (s : Segment) (af
     → parts_onto parts (segments_of total bytes) ≡ parts_onto (with_segment parts s) (segments_of total after)
 one_put parts total bytes s after e =
     parts_more parts total bytes
-    ∙ ap (λ (found : Result (Option (Segment × List ℕ)) FontCode). reported_at (Byte (total - length bytes)) found >>= parts_after parts total) e
+    ∙ ap (λ (found : Result (Option (Segment × List ℕ)) FontCode). font_reported_at (Byte (total - length bytes)) found >>= parts_after parts total) e
 
 text_put : (s : Segment) → s.kind ≡ 1 → with_segment no_parts s ≡ tailless s.bytes []
 text_put s kind = rw kind refl

@@ -17,7 +17,7 @@ use Rattle.t1_disassemble.specs.Layouts.{is_border, begins_border, one_line, are
 use Rattle.t1_disassemble.specs.Opening.{Opening, glyph_opening, subr_opening, subr_here, opening_here, or_other, first_opening}
 use Rattle.t1_disassemble.specs.PiecesOnto.{entry_left, entry_onto, piece_onto, read_onto, private_onto}
 use Rattle.t1_disassemble.specs.PrivateText.{PieceRead, plain_text, head_line, goes_on, source_line, past_source_line}
-use Rattle.t1_disassemble.specs.Settings.{is_section}
+use Rattle.t1_disassemble.specs.Settings.{heads_section}
 use Rattle.t1_disassemble.specs.Words.{words_of_encrypted, printed_words}
 use Rattle.t1_disassemble.proofs.FrontLaws.{front_append, line_front, line_past, lines_parts, IsToken, token_place, token_line}
 use Rattle.t1_disassemble.proofs.Openings.{here_glyph, here_other}
@@ -54,7 +54,7 @@ past_again : (operator line rest : List ℕ) → is_line line ≡ true → Alone
 past_again operator line rest whole alone = rw (stays_one operator line rest whole alone) (line_past line rest whole)
 
 closes_alone : (line : List ℕ) → is_closefile line ≡ true → Alone line
-closes_alone line h = inr (elim (cases_Bool (is_section line)) [
+closes_alone line h = inr (elim (cases_Bool (heads_section line)) [
   | inl t ↦ rw t refl
   | inr f ↦ rw f h
 ])

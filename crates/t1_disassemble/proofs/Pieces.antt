@@ -11,8 +11,8 @@ use Rattle.t1_disassemble.specs.declared.fault.FontPlace.TheVariants.{Entry}
 use Rattle.t1_disassemble.specs.Cuts.{pieces_after, pieces}
 use Rattle.t1_disassemble.specs.Front.{front_line, past_line}
 use Rattle.t1_disassemble.specs.Opening.{Opening, first_opening}
-use Rattle.t1_disassemble.specs.Outcome.{reported_at}
-use Rattle.t1_disassemble.specs.PrivateText.{PieceRead, entry_piece, opened_piece, goes_on, opened_left, piece_left, before_text, pieces_text, front_text, head_line}
+use Rattle.t1_disassemble.specs.Outcome.{font_reported_at}
+use Rattle.t1_disassemble.specs.PrivateText.{PieceRead, entry_piece, opened_piece, goes_on, opened_left, piece_left, before_text, entry_pieces_text, front_text, head_line}
 use Rattle.t1_disassemble.specs.PiecesOnto.{entry_left, entry_onto, piece_onto, read_onto, text_onto, private_onto}
 use Rattle.t1_disassemble.specs.Words.{words_of_encrypted, printed_words}
 use Rattle.t1_disassemble.specs.WordsOnto.{words_onto}
@@ -53,7 +53,7 @@ entry_leaves lead front o bytes = elim (cases_Bool (ltb (length bytes) o.count))
   | inr f ↦ rw f (said (words_of_encrypted lead (take o.count bytes)))
 ]
   where
-    said : (words : Result (List (List ℕ)) FontCode) → Leaves (drop o.count bytes) (reported_at (Entry o.name) words >>= λ ws. Ok (entry_left (front ++ (head_line o.name ++ printed_words false ws)) (drop o.count bytes)))
+    said : (words : Result (List (List ℕ)) FontCode) → Leaves (drop o.count bytes) (font_reported_at (Entry o.name) words >>= λ ws. Ok (entry_left (front ++ (head_line o.name ++ printed_words false ws)) (drop o.count bytes)))
     said (Ok ws) = refl
     said (Err code) = tt
 
@@ -76,8 +76,8 @@ entry_same lead text front o bytes = elim (cases_Bool (ltb (length bytes) o.coun
     rest = drop o.count bytes
 
     said : (words : Result (List (List ℕ)) FontCode)
-        → (reported_at (Entry o.name) (words_onto ((text ++ front) ++ head_line o.name) false words) >>= λ all. Ok (entry_left all rest))
-        ≡ ((reported_at (Entry o.name) words >>= λ ws. Ok (entry_left (front ++ (head_line o.name ++ printed_words false ws)) rest)) >>= λ piece. Ok (onto text piece))
+        → (font_reported_at (Entry o.name) (words_onto ((text ++ front) ++ head_line o.name) false words) >>= λ all. Ok (entry_left all rest))
+        ≡ ((font_reported_at (Entry o.name) words >>= λ ws. Ok (entry_left (front ++ (head_line o.name ++ printed_words false ws)) rest)) >>= λ piece. Ok (onto text piece))
     said (Ok ws) =
         ap (λ (t : List ℕ). Ok (entry_left t rest)) (append_assoc (text ++ front) (head_line o.name) (printed_words false ws) ∙ append_assoc text front (head_line o.name ++ printed_words false ws))
     said (Err code) = refl
@@ -97,26 +97,26 @@ regrouped text front (Ok found) = ap (λ (t : List ℕ). Ok (t, found.1)) (sym (
 regrouped text front (Err fault) = refl
 
 onto_more : (operator : List ℕ) (lead : ℕ) (text rest : List ℕ) (piece : PieceRead) → rest ≡ piece.rest
-    → text_onto text (before_text (pieces_text operator lead (pieces (piece_left operator) rest)) piece) ≡ go_on (private_onto operator lead) (onto text piece)
+    → text_onto text (before_text (entry_pieces_text operator lead (pieces (piece_left operator) rest)) piece) ≡ go_on (private_onto operator lead) (onto text piece)
 unfolding private_onto
 onto_more operator lead text rest piece e = elim (cases_Bool piece.is_last) [
   | inl t ↦ rw t refl
-  | inr f ↦ rw f (regrouped text piece.text (pieces_text operator lead (pieces (piece_left operator) rest) piece.waits)
-      ∙ ap (λ (l : List ℕ). text_onto (text ++ piece.text) (pieces_text operator lead (pieces (piece_left operator) l) piece.waits)) e)
+  | inr f ↦ rw f (regrouped text piece.text (entry_pieces_text operator lead (pieces (piece_left operator) rest) piece.waits)
+      ∙ ap (λ (l : List ℕ). text_onto (text ++ piece.text) (entry_pieces_text operator lead (pieces (piece_left operator) l) piece.waits)) e)
 ]
 
 then_more : (operator : List ℕ) (lead : ℕ) (text rest : List ℕ) (read : Result PieceRead FontFault) → Leaves rest read
-    → text_onto text (read >>= before_text (pieces_text operator lead (pieces (piece_left operator) rest))) ≡ ((read >>= λ piece. Ok (onto text piece)) >>= go_on (private_onto operator lead))
+    → text_onto text (read >>= before_text (entry_pieces_text operator lead (pieces (piece_left operator) rest))) ≡ ((read >>= λ piece. Ok (onto text piece)) >>= go_on (private_onto operator lead))
 then_more operator lead text rest (Ok piece) e = onto_more operator lead text rest piece e
 then_more operator lead text rest (Err fault) e = refl
 
 read_more : (operator : List ℕ) (lead : ℕ) (text : List ℕ) (waits : Bool) (c : ℕ) (bytes : List ℕ) (opening : Option Opening)
-    → text_onto text (opened_piece operator lead waits (c ∷ bytes) opening >>= before_text (pieces_text operator lead (pieces_after (piece_left operator) (length bytes - length (opened_left operator (c ∷ bytes) opening)) bytes)))
+    → text_onto text (opened_piece operator lead waits (c ∷ bytes) opening >>= before_text (entry_pieces_text operator lead (pieces_after (piece_left operator) (length bytes - length (opened_left operator (c ∷ bytes) opening)) bytes)))
     ≡ (piece_onto operator lead text waits (c ∷ bytes) opening >>= go_on (private_onto operator lead))
 read_more operator lead text waits c bytes opening =
     let rest = opened_left operator (c ∷ bytes) opening in
     let read = opened_piece operator lead waits (c ∷ bytes) opening in
-    ap (λ (froms : List (List ℕ)). text_onto text (read >>= before_text (pieces_text operator lead froms))) (left_pieces (piece_left operator) bytes rest (opening_left operator c bytes opening))
+    ap (λ (froms : List (List ℕ)). text_onto text (read >>= before_text (entry_pieces_text operator lead froms))) (left_pieces (piece_left operator) bytes rest (opening_left operator c bytes opening))
     ∙ then_more operator lead text rest read (piece_leaves operator lead waits (c ∷ bytes) opening)
     ∙ ap (λ (r : Result PieceRead FontFault). r >>= go_on (private_onto operator lead)) (sym (piece_same operator lead text waits (c ∷ bytes) opening))
 

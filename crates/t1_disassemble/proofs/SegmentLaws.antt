@@ -13,9 +13,9 @@ use Rattle.t1_code.proofs.Framing.{blocks_join, blocks_short}
 use Rattle.t1_code.proofs.Encrypting.{length-eexec}
 use Rattle.t1_disassemble.specs.declared.fault.FontFault.{FontFault}
 use Rattle.t1_disassemble.specs.declared.fault.FontPlace.TheVariants.{Byte}
-use Rattle.t1_disassemble.specs.Outcome.{reported_at}
+use Rattle.t1_disassemble.specs.Outcome.{font_reported_at}
 use Rattle.t1_disassemble.specs.SegmentsRead.{Segment, FontParts, cut_segment, segment_after, some_found, segment_at, placed_segment, segments_of, parts_onto, with_segment, no_parts, font_parts}
-use Rattle.t1_disassemble.specs.Laws.{whole, IsBlock, IsEnd}
+use Rattle.t1_disassemble.specs.Laws.{blocks_bytes, IsBlock, IsEnd}
 use Rattle.t1_disassemble.proofs.Segmented.{parts_after, parts_more}
 
 -- a segment of text, or of binary data
@@ -39,7 +39,7 @@ segment_again kind bytes more (inr e) h = rw e (ap some_found (after_again 2 byt
 
 placed_again : (kind total : ℕ) (bytes more : List ℕ) → IsData kind → length bytes < 2 ^ 32
     → placed_segment total (segment kind bytes ++ more) ≡ Ok (Some (record { kind = kind; bytes = bytes }, more))
-placed_again kind total bytes more is h = ap (reported_at (Byte (total - length (segment kind bytes ++ more)))) (segment_again kind bytes more is h)
+placed_again kind total bytes more is h = ap (font_reported_at (Byte (total - length (segment kind bytes ++ more)))) (segment_again kind bytes more is h)
 
 -- ---- the segments of a part, one after another
 
@@ -60,36 +60,36 @@ blocks_again kind total parts (block ∷ blocks) more is h =
 abbrev parts_of : List ℕ → List ℕ → List ℕ → FontParts
 parts_of clear coded tail = record { clear = clear; coded = coded; tail = tail }
 
-clear_blocks : (clear tail : List ℕ) (blocks : List (List ℕ)) → with_blocks 1 (parts_of clear [] tail) blocks ≡ parts_of (clear ++ whole blocks) [] tail
+clear_blocks : (clear tail : List ℕ) (blocks : List (List ℕ)) → with_blocks 1 (parts_of clear [] tail) blocks ≡ parts_of (clear ++ blocks_bytes blocks) [] tail
 clear_blocks clear tail [] = ap (λ l. parts_of l [] tail) (sym (append-nil clear))
-clear_blocks clear tail (block ∷ blocks) = clear_blocks (clear ++ block) tail blocks ∙ ap (λ l. parts_of l [] tail) (append_assoc clear block (whole blocks))
+clear_blocks clear tail (block ∷ blocks) = clear_blocks (clear ++ block) tail blocks ∙ ap (λ l. parts_of l [] tail) (append_assoc clear block (blocks_bytes blocks))
 
-coded_blocks : (clear coded tail : List ℕ) (blocks : List (List ℕ)) → with_blocks 2 (parts_of clear coded tail) blocks ≡ parts_of clear (coded ++ whole blocks) tail
+coded_blocks : (clear coded tail : List ℕ) (blocks : List (List ℕ)) → with_blocks 2 (parts_of clear coded tail) blocks ≡ parts_of clear (coded ++ blocks_bytes blocks) tail
 coded_blocks clear coded tail [] = ap (λ l. parts_of clear l tail) (sym (append-nil coded))
-coded_blocks clear coded tail (block ∷ blocks) = coded_blocks clear (coded ++ block) tail blocks ∙ ap (λ l. parts_of clear l tail) (append_assoc coded block (whole blocks))
+coded_blocks clear coded tail (block ∷ blocks) = coded_blocks clear (coded ++ block) tail blocks ∙ ap (λ l. parts_of clear l tail) (append_assoc coded block (blocks_bytes blocks))
 
 tail_step : (clear coded tail block : List ℕ) → 0 < length coded → with_segment (parts_of clear coded tail) (record { kind = 1; bytes = block }) ≡ parts_of clear coded (tail ++ block)
 tail_step clear coded tail block some = rw (ne_eqb (length coded) 0 (omega (arith, some))) refl
 
-tail_blocks : (clear coded tail : List ℕ) (blocks : List (List ℕ)) → 0 < length coded → with_blocks 1 (parts_of clear coded tail) blocks ≡ parts_of clear coded (tail ++ whole blocks)
+tail_blocks : (clear coded tail : List ℕ) (blocks : List (List ℕ)) → 0 < length coded → with_blocks 1 (parts_of clear coded tail) blocks ≡ parts_of clear coded (tail ++ blocks_bytes blocks)
 tail_blocks clear coded tail [] some = ap (parts_of clear coded) (sym (append-nil tail))
 tail_blocks clear coded tail (block ∷ blocks) some =
     ap (λ (parts : FontParts). with_blocks 1 parts blocks) (tail_step clear coded tail block some)
-    ∙ tail_blocks clear coded (tail ++ block) blocks some ∙ ap (parts_of clear coded) (append_assoc tail block (whole blocks))
+    ∙ tail_blocks clear coded (tail ++ block) blocks some ∙ ap (parts_of clear coded) (append_assoc tail block (blocks_bytes blocks))
 
 ended : (parts : FontParts) (total : ℕ) (end : List ℕ) → IsEnd end → parts_onto parts (segments_of total end) ≡ Ok parts
 ended parts total end (inl e) = ap (λ (l : List ℕ). parts_onto parts (segments_of total l)) e ∙ parts_more parts total []
 ended parts total end (inr e) = ap (λ (l : List ℕ). parts_onto parts (segments_of total l)) e ∙ parts_more parts total (128 ∷ 3 ∷ [])
 
-begins_marked : (clear coded : List (List ℕ)) (rest : List ℕ) → 0 < length (whole coded) → begins_with 128 (flat_map (segment 1) clear ++ (flat_map (segment 2) coded ++ rest)) ≡ true
+begins_marked : (clear coded : List (List ℕ)) (rest : List ℕ) → 0 < length (blocks_bytes coded) → begins_with 128 (flat_map (segment 1) clear ++ (flat_map (segment 2) coded ++ rest)) ≡ true
 unfolding segment
 begins_marked (block ∷ clear) coded rest some = refl
 begins_marked [] (block ∷ coded) rest some = refl
 begins_marked [] [] rest some = absurd (omega (arith, some))
 
 pub however_cut : (clear coded tail : List (List ℕ)) (end : List ℕ) → AllByRecursion IsBlock clear → AllByRecursion IsBlock coded → AllByRecursion IsBlock tail
-    → 0 < length (whole coded) → IsEnd end
-    → font_parts (flat_map (segment 1) clear ++ (flat_map (segment 2) coded ++ (flat_map (segment 1) tail ++ end))) ≡ Ok (record { clear = whole clear; coded = whole coded; tail = whole tail })
+    → 0 < length (blocks_bytes coded) → IsEnd end
+    → font_parts (flat_map (segment 1) clear ++ (flat_map (segment 2) coded ++ (flat_map (segment 1) tail ++ end))) ≡ Ok (record { clear = blocks_bytes clear; coded = blocks_bytes coded; tail = blocks_bytes tail })
 unfolding font_parts
 however_cut clear coded tail end c d t some is =
     let third = flat_map (segment 1) tail ++ end in
@@ -99,11 +99,11 @@ however_cut clear coded tail end c d t some is =
     rw (begins_marked clear coded third some)
     (blocks_again 1 total no_parts clear second (inl refl) c
     ∙ ap (λ (parts : FontParts). parts_onto parts (segments_of total second)) (clear_blocks [] [] clear)
-    ∙ blocks_again 2 total (parts_of (whole clear) [] []) coded third (inr refl) d
-    ∙ ap (λ (parts : FontParts). parts_onto parts (segments_of total third)) (coded_blocks (whole clear) [] [] coded)
-    ∙ blocks_again 1 total (parts_of (whole clear) (whole coded) []) tail end (inl refl) t
-    ∙ ap (λ (parts : FontParts). parts_onto parts (segments_of total end)) (tail_blocks (whole clear) (whole coded) [] tail some)
-    ∙ ended (parts_of (whole clear) (whole coded) (whole tail)) total end is)
+    ∙ blocks_again 2 total (parts_of (blocks_bytes clear) [] []) coded third (inr refl) d
+    ∙ ap (λ (parts : FontParts). parts_onto parts (segments_of total third)) (coded_blocks (blocks_bytes clear) [] [] coded)
+    ∙ blocks_again 1 total (parts_of (blocks_bytes clear) (blocks_bytes coded) []) tail end (inl refl) t
+    ∙ ap (λ (parts : FontParts). parts_onto parts (segments_of total end)) (tail_blocks (blocks_bytes clear) (blocks_bytes coded) [] tail some)
+    ∙ ended (parts_of (blocks_bytes clear) (blocks_bytes coded) (blocks_bytes tail)) total end is)
 
 -- ---- the file of an assembled font
 
@@ -119,7 +119,7 @@ pfb_again size clear private trailer some short =
     let fit = λ (bytes : List ℕ). blocks_fit size (cut bytes) short (blocks_short size bytes some) in
     let end : List ℕ = 128 ∷ 3 ∷ [] in
     let kept = λ (bytes : List ℕ). blocks_join size bytes some in
-    let long : 0 < length (whole (cut (eexec private))) = omega (arith, ap length (kept (eexec private)), length-eexec private) in
+    let long : 0 < length (blocks_bytes (cut (eexec private))) = omega (arith, ap length (kept (eexec private)), length-eexec private) in
     ap font_parts (append_assoc (flat_map (segment 1) (cut clear) ++ flat_map (segment 2) (cut (eexec private))) (flat_map (segment 1) (cut trailer)) end
     ∙ append_assoc (flat_map (segment 1) (cut clear)) (flat_map (segment 2) (cut (eexec private))) (flat_map (segment 1) (cut trailer) ++ end))
     ∙ however_cut (cut clear) (cut (eexec private)) (cut trailer) end (fit clear) (fit (eexec private)) (fit trailer) long (inr refl)

@@ -8,7 +8,7 @@ use Rattle.t1_disassemble.specs.declared.fault.FontFault.{FontFault}
 use Rattle.t1_disassemble.specs.declared.fault.FontPlace.{FontPlace}
 use Rattle.t1_disassemble.specs.declared.fault.FontPlace.TheVariants.{Byte}
 use Rattle.t1_disassemble.specs.Cuts.{pieces_after}
-use Rattle.t1_disassemble.specs.Outcome.{reported_at}
+use Rattle.t1_disassemble.specs.Outcome.{font_reported_at}
 use Rattle.t1_disassemble.specs.SegmentsRead.{Segment, FontParts, cut_segment, segment_after, some_found, typed_segment, segment_at, segment_left, placed_segment, before_others, segments_at, segments_of, parts_onto, with_segment}
 use Rattle.t1_disassemble.proofs.CutPieces.{IsLeft, left_twice, left_pieces}
 
@@ -73,7 +73,7 @@ abbrev after_first : List ℕ → List ℕ
 after_first bytes = segment_left (segment_at bytes)
 
 found_more : (total : ℕ) (place : FontPlace) (rest : List ℕ) (found : Result (Option (Segment × List ℕ)) FontCode) → LeavesMaybe rest found
-    → (reported_at place found >>= before_others (segments_at total (pieces_after after_first (length rest - length (segment_left found)) rest))) ≡ (reported_at place found >>= before_rest total)
+    → (font_reported_at place found >>= before_others (segments_at total (pieces_after after_first (length rest - length (segment_left found)) rest))) ≡ (font_reported_at place found >>= before_rest total)
 unfolding segments_of
 found_more total place rest (Ok (Some found)) h =
     ap (λ (froms : List (List ℕ)). segments_at total froms >>= λ more. Ok (found.0 ∷ more)) (left_pieces after_first rest found.1 h)

@@ -10,7 +10,8 @@ use Rattle.t1_frac.specs.Words.{is_blank}
 use Rattle.t1_text.specs.Lines.{begins_with, is_line, is_line_end, unified, split_lines, lines}
 use Rattle.t1_text.specs.Tokens.{is_bracket, token_goes_on, onto_place, joins_at, places_from}
 use Rattle.t1_parts.specs.Sections.{count_between, section_at, subrs_line, glyphs_line}
-use Rattle.t1_disassemble.specs.Kinds.{is_line_of, slashless}
+use Rattle.t1_disassemble.specs.Kinds.{is_line_of}
+use Rattle.t1_disassemble.specs.CutWords.{slashless}
 
 -- ---- the lines of such bytes
 

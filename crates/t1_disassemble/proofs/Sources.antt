@@ -11,16 +11,16 @@ use Rattle.t1_disassemble.specs.CutDigits.{with_digits}
 use Rattle.t1_disassemble.specs.Decipher.{decrypted_private}
 use Rattle.t1_disassemble.specs.Disassembly.{coded_bytes, coded_place, tail_after, private_source, coded_source}
 use Rattle.t1_disassemble.specs.Kinds.{single_sections}
-use Rattle.t1_disassemble.specs.Outcome.{reported_at}
+use Rattle.t1_disassemble.specs.Outcome.{font_reported_at}
 use Rattle.t1_disassemble.specs.PiecesOnto.{text_onto, private_onto}
-use Rattle.t1_disassemble.specs.PrivateText.{private_text}
+use Rattle.t1_disassemble.specs.PrivateText.{read_private_text}
 use Rattle.t1_disassemble.specs.SegmentsRead.{FontParts}
 use Rattle.t1_disassemble.specs.Settings.{reading_operator, leading_bytes}
 use Rattle.t1_disassemble.specs.SourceOnto.{plain_onto, source_onto}
 
 -- the lines of a whole private text, after others
-pub text_same : (operator : List ℕ) (lead : ℕ) (text plain : List ℕ) → private_onto operator lead text false plain ≡ text_onto text (private_text operator lead plain)
-unfolding private_onto private_text
+pub text_same : (operator : List ℕ) (lead : ℕ) (text plain : List ℕ) → private_onto operator lead text false plain ≡ text_onto text (read_private_text operator lead plain)
+unfolding private_onto read_private_text
 text_same operator lead text plain = refl
 
 -- the tail that stands behind what was read
@@ -48,11 +48,11 @@ digits_same place text parts coded plain (Ok found) =
 digits_same place text parts coded plain (Err fault) = refl
 
 lead_same : (text : List ℕ) (parts : FontParts) (coded plain operator : List ℕ) (lead : Result ℕ FontCode)
-    → (reported_at Nowhere lead >>= λ n. with_digits (coded_place parts coded) coded (private_onto operator n text false plain) >>= ended_onto text parts coded plain)
-    ≡ ((reported_at Nowhere lead >>= λ n. with_digits (coded_place parts coded) coded (private_text operator n plain) >>= ended parts coded plain) >>= λ more. Ok (text ++ more))
+    → (font_reported_at Nowhere lead >>= λ n. with_digits (coded_place parts coded) coded (private_onto operator n text false plain) >>= ended_onto text parts coded plain)
+    ≡ ((font_reported_at Nowhere lead >>= λ n. with_digits (coded_place parts coded) coded (read_private_text operator n plain) >>= ended parts coded plain) >>= λ more. Ok (text ++ more))
 lead_same text parts coded plain operator (Ok n) =
     ap (λ (r : Result (List ℕ × List ℕ) FontFault). with_digits (coded_place parts coded) coded r >>= ended_onto text parts coded plain) (text_same operator n text plain)
-    ∙ digits_same (coded_place parts coded) text parts coded plain (private_text operator n plain)
+    ∙ digits_same (coded_place parts coded) text parts coded plain (read_private_text operator n plain)
 lead_same text parts coded plain operator (Err code) = refl
 
 plain_same : (text : List ℕ) (parts : FontParts) (coded plain : List ℕ) → plain_onto text parts coded plain ≡ (private_source parts coded plain >>= λ more. Ok (text ++ more))

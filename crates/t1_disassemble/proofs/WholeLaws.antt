@@ -25,7 +25,7 @@ use Rattle.t1_disassemble.specs.Digits.{digit_value, is_hexadecimal}
 use Rattle.t1_disassemble.specs.Disassembly.{coded_bytes, tail_after, coded_source, source_of, disassembled}
 use Rattle.t1_disassemble.specs.Front.{past_line, after_eexec_line, after_eexec_words, first_of, after_eexec, before_rest, past_spaces}
 use Rattle.t1_disassemble.specs.Kinds.{plain_kind, single_sections}
-use Rattle.t1_disassemble.specs.Laws.{plain_item, items_text, reads_line, reads_item, front_lines, source_lines, IsClear, IsReadBack}
+use Rattle.t1_disassemble.specs.Laws.{plain_item, items_text, reads_line, reads_item, front_lines, source_lines, EndsWithEexec, IsReadBack}
 use Rattle.t1_disassemble.specs.PiecesOnto.{private_onto}
 use Rattle.t1_disassemble.specs.SegmentsRead.{FontParts}
 use Rattle.t1_disassemble.specs.SourceOnto.{plain_onto, source_onto}
@@ -126,12 +126,12 @@ clear_after (l ∷ before) e rest h none ends =
     ∙ ap (λ t. if t then Some (joined (before ++ e ∷ []) ++ rest) else after_eexec_line (joined (before ++ e ∷ []) ++ rest)) off.0
     ∙ clear_after before e rest parts.1 off.1 ends
 
-clear_line : (clear : List (List ℕ)) (rest : List ℕ) → IsClear clear → after_eexec_line (joined clear ++ rest) ≡ Some rest
+clear_line : (clear : List (List ℕ)) (rest : List ℕ) → EndsWithEexec clear → after_eexec_line (joined clear ++ rest) ≡ Some rest
 clear_line clear rest is =
     ap (λ (ls : List (List ℕ)). after_eexec_line (joined ls ++ rest)) is.whole
     ∙ clear_after is.before is.eexec rest (ap (list_all is_line) (sym is.whole) ∙ is.lines) is.none is.ends
 
-pub clear_again : (clear : List (List ℕ)) (rest : List ℕ) → IsClear clear → after_eexec (joined clear ++ rest) ≡ Some rest
+pub clear_again : (clear : List (List ℕ)) (rest : List ℕ) → EndsWithEexec clear → after_eexec (joined clear ++ rest) ≡ Some rest
 clear_again clear rest is = ap (λ (found : Option (List ℕ)). first_of found (after_eexec_words (joined clear ++ rest))) (clear_line clear rest is)
 
 pub before_again : (front rest : List ℕ) → before_rest (front ++ rest) rest ≡ front

@@ -4,10 +4,8 @@ use Rattle.t1_disassemble.specs.declared.fault.FontCode.{FontCode}
 use Rattle.t1_disassemble.specs.declared.fault.FontCode.TheVariants.{D1, D2, D3, D4, D5, D6, D7, D8, D9, D10, D11, D12, D13}
 use Rattle.t1_disassemble.specs.declared.fault.FontFault.{FontFault}
 use Rattle.t1_disassemble.specs.declared.fault.FontPlace.TheVariants.{Byte}
-use Rattle.t1_disassemble.specs.declared.fault.FontRefusal.{FontRefusal}
-use Rattle.t1_disassemble.specs.declared.fault.FontRefusal.TheVariants as refusals
 use Rattle.t1_disassemble.specs.Digits.{is_hexadecimal, digits_len}
-use Rattle.t1_disassemble.specs.Outcome.{fault_at}
+use Rattle.t1_disassemble.specs.Outcome.{font_fault_at}
 
 -- profile, faults: whether a fault is that of a private text which ends too early
 abbrev pub is_early : FontCode → Bool
@@ -31,12 +29,7 @@ is_cut coded = is_hexadecimal coded && nat_lt (digits_len coded) (length coded)
 
 -- profile, faults: a fault of an encrypted part that has its place in the file; another byte among its digits comes first
 abbrev pub digits_fault : ℕ → List ℕ → FontFault → FontFault
-digits_fault place coded fault = if is_early fault.code && is_cut coded then fault_at (Byte (place + digits_len coded)) D3 else fault
-
--- word: the same of what a call refuses
-abbrev pub digits_refusal : ℕ → List ℕ → FontRefusal → FontRefusal
-digits_refusal place coded (refusals.Fault fault) = refusals.Fault (digits_fault place coded fault)
-digits_refusal place coded refusals.Memory = refusals.Memory
+digits_fault place coded fault = if is_early fault.code && is_cut coded then font_fault_at (Byte (place + digits_len coded)) D3 else fault
 
 -- profile, faults: what is read of an encrypted part, or its first fault
 abbrev pub with_digits : {X : Type 0} → ℕ → List ℕ → Result X FontFault → Result X FontFault

@@ -11,8 +11,8 @@ use Rattle.t1_disassemble.specs.Decipher.{decrypted_private}
 use Rattle.t1_disassemble.specs.Digits.{digit_bytes, after_digits, is_hexadecimal}
 use Rattle.t1_disassemble.specs.Front.{after_eexec, before_rest, past_line, past_spaces}
 use Rattle.t1_disassemble.specs.Kinds.{plain_kind, single_sections}
-use Rattle.t1_disassemble.specs.Outcome.{fault_at, reported_at}
-use Rattle.t1_disassemble.specs.PrivateText.{private_text}
+use Rattle.t1_disassemble.specs.Outcome.{font_fault_at, font_reported_at}
+use Rattle.t1_disassemble.specs.PrivateText.{read_private_text}
 use Rattle.t1_disassemble.specs.SegmentsRead.{FontParts, font_parts}
 use Rattle.t1_disassemble.specs.Settings.{reading_operator, leading_bytes}
 
@@ -35,8 +35,8 @@ coded_place parts coded = length parts.clear + length parts.coded - length coded
 -- Type 1 Font Format, Chapter 2: the lines of the private text that this encrypted part holds, and those of the tail
 abbrev pub private_source : FontParts → List ℕ → List ℕ → Result (List ℕ) FontFault
 private_source parts coded plain =
-    reported_at Nowhere (leading_bytes (lines plain)) >>= λ lead.
-    with_digits (coded_place parts coded) coded (private_text (reading_operator (lines plain)) lead plain) >>= λ private.
+    font_reported_at Nowhere (leading_bytes (lines plain)) >>= λ lead.
+    with_digits (coded_place parts coded) coded (read_private_text (reading_operator (lines plain)) lead plain) >>= λ private.
     single_sections private.0 >>= λ single.
     Ok (private.0 ++ joined (tail_of (lines (tail_after parts coded (4 + (length plain - length private.1))))))
 
@@ -46,7 +46,7 @@ coded_source parts coded = private_source parts coded (decrypted_private (coded_
 
 -- Type 1 Font Format, Chapter 2: the lines of the clear text, those of the private text, and the tail
 abbrev pub source_of : FontParts → Option (List ℕ) → Result (List ℕ) FontFault
-source_of parts None = plain_kind parts.clear >>= λ clear. Err (fault_at Nowhere D1)
+source_of parts None = plain_kind parts.clear >>= λ clear. Err (font_fault_at Nowhere D1)
 source_of parts (Some after) =
     plain_kind (before_rest parts.clear after) >>= λ clear.
     coded_source parts (past_spaces (after ++ parts.coded)) >>= λ others. Ok (joined (lines clear) ++ others)

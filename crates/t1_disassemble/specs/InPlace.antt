@@ -4,7 +4,7 @@ use Rattle.t1_text.specs.Lines.{begins_with}
 use Rattle.t1_code.specs.Pfb.{marker}
 use Rattle.t1_disassemble.specs.declared.fault.FontFault.{FontFault}
 use Rattle.t1_disassemble.specs.declared.fault.FontRefusal.{FontRefusal}
-use Rattle.t1_disassemble.specs.Outcome.{Refuses}
+use Rattle.t1_disassemble.specs.Outcome.{RefusesFont}
 use Rattle.t1_disassemble.specs.SegmentsRead.{FontParts, segments_of, parts_onto, no_parts}
 
 -- word, segments: the parts without a tail
@@ -25,4 +25,4 @@ pub record IsFront (text binary : ℕ) (file : List ℕ) : Type 0 where
 abbrev pub GivesTail : {X : Type 0} → (X → List ℕ) → List ℕ → List ℕ → Result (Option X) FontRefusal → Result FontParts FontFault → Type 0
 GivesTail view clear coded (Ok None) given = Unit {0}
 GivesTail view clear coded (Ok (Some tail)) given = given ≡ Ok (record { clear = clear; coded = coded; tail = view tail })
-GivesTail view clear coded (Err refused) given = Refuses refused given
+GivesTail view clear coded (Err refused) given = RefusesFont refused given

@@ -22,8 +22,8 @@ use Rattle.t1_disassemble.specs.Opening.{first_opening}
 use Rattle.t1_disassemble.specs.Settings.{opens_section, reading_operator, leading_bytes}
 
 -- profile: the bytes of blocks, one after another
-abbrev pub whole : List (List ℕ) → List ℕ
-whole blocks = flat_map (λ block. block) blocks
+abbrev pub blocks_bytes : List (List ℕ) → List ℕ
+blocks_bytes blocks = flat_map (λ block. block) blocks
 
 -- Technical Note 5040, 3.3: a segment has a length of four bytes
 abbrev pub IsBlock : List ℕ → Type 0
@@ -34,8 +34,8 @@ abbrev pub IsEnd : List ℕ → Type 0
 IsEnd end = (end ≡ []) ⊎ (end ≡ marker ∷ end_of_file ∷ [])
 
 -- Type 1 Font Format, 7.2 (eexec): the clear text, the encrypted private text in binary, and the trailer, without segments
-abbrev pub raw : List ℕ → List ℕ → List ℕ → List ℕ
-raw clear private trailer = clear ++ (eexec private ++ trailer)
+abbrev pub raw_file : List ℕ → List ℕ → List ℕ → List ℕ
+raw_file clear private trailer = clear ++ (eexec private ++ trailer)
 
 -- profile: numbers that bytes hold
 abbrev pub AreBytes : List ℕ → Type 0
@@ -97,7 +97,7 @@ pub record AreSaid (operator : List ℕ) (lead : ℕ) (items : List Item) : Type
   pub leads : leading_bytes (front_lines items) ≡ Ok lead
 
 -- profile: the clear text ends with its first eexec line
-pub record IsClear (clear : List (List ℕ)) : Type 0 where
+pub record EndsWithEexec (clear : List (List ℕ)) : Type 0 where
   pub before : List (List ℕ)
   pub eexec : List ℕ
   pub whole : clear ≡ before ++ eexec ∷ []
@@ -117,7 +117,7 @@ source_lines items last = flat_map item_lines (map plain_item items) ++ last ∷
 
 -- profile: a source whose file is read back: all of it is a test
 pub record IsReadBack (clear : List (List ℕ)) (operator : List ℕ) (lead : ℕ) (items : List Item) (last : List ℕ) : Type 0 where
-  pub front : IsClear clear
+  pub front : EndsWithEexec clear
   pub said : AreSaid operator lead items
   pub each : list_all (reads_item operator) items ≡ true
   pub end : IsLast operator last

@@ -3,11 +3,11 @@ use Rattle.std.specs.Prelude.{ℕ, Bool, ◌&&◌, ◌||◌, not, List, ◌∷�
 use Rattle.t1_frac.specs.Ascii.{space}
 use Rattle.t1_text.specs.Lines.{trimmed}
 use Rattle.t1_parts.specs.Parts.{ends_in, is_closefile}
-use Rattle.t1_disassemble.specs.Settings.{is_section, begins_section}
+use Rattle.t1_disassemble.specs.Settings.{heads_section, begins_section}
 
 -- profile, layouts: a border of the private text: a section line, or the line that closes the encrypted part
 abbrev pub is_border : List ℕ → Bool
-is_border l = is_section l || is_closefile l
+is_border l = heads_section l || is_closefile l
 
 -- profile, layouts: whether a border may begin on a line and go on with the next: it ends in a section's name, in that and
 -- digits, in `mark`, or in `mark currentfile`

@@ -3,5 +3,5 @@ use Rattle.t1_disassemble.specs.declared.segments.LentParts.{LentParts}
 use Rattle.t1_disassemble.specs.SegmentsRead.{FontParts}
 
 -- word: the parts of a font
-abbrev pub parts_of : LentParts → FontParts
-parts_of parts = record { clear = parts.clear.now; coded = parts.coded.now; tail = parts.tail.now }
+abbrev pub lent_parts : LentParts → FontParts
+lent_parts parts = record { clear = parts.clear.now; coded = parts.coded.now; tail = parts.tail.now }

@@ -1,5 +1,6 @@
 pub mod CommandWords
 pub mod CutDigits
+pub mod CutWords
 pub mod Cuts
 pub mod Decipher
 pub mod Digits

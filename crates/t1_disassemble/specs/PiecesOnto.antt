@@ -9,8 +9,8 @@ use Rattle.t1_disassemble.specs.declared.fault.FontPlace.TheVariants.{Nowhere, E
 use Rattle.t1_disassemble.specs.Cuts.{pieces}
 use Rattle.t1_disassemble.specs.Front.{front_line}
 use Rattle.t1_disassemble.specs.Opening.{Opening, first_opening}
-use Rattle.t1_disassemble.specs.Outcome.{fault_at, reported_at}
-use Rattle.t1_disassemble.specs.PrivateText.{PieceRead, plain_text, front_text, head_line, source_line, past_source_line, piece_left, pieces_text}
+use Rattle.t1_disassemble.specs.Outcome.{font_fault_at, font_reported_at}
+use Rattle.t1_disassemble.specs.PrivateText.{PieceRead, plain_text, front_text, head_line, source_line, past_source_line, piece_left, entry_pieces_text}
 use Rattle.t1_disassemble.specs.Words.{words_of_encrypted}
 use Rattle.t1_disassemble.specs.WordsOnto.{words_onto}
 
@@ -21,8 +21,8 @@ entry_left text rest = record { text = text; waits = true; rest = rest; is_last 
 -- word: an entry after a text
 abbrev pub entry_onto : ℕ → List ℕ → Opening → List ℕ → Result PieceRead FontFault
 entry_onto lead text o bytes =
-    if nat_lt (length bytes) o.count then Err (fault_at (Entry o.name) D5)
-    else (reported_at (Entry o.name) (words_onto (text ++ head_line o.name) false (words_of_encrypted lead (take o.count bytes))) >>= λ all.
+    if nat_lt (length bytes) o.count then Err (font_fault_at (Entry o.name) D5)
+    else (font_reported_at (Entry o.name) (words_onto (text ++ head_line o.name) false (words_of_encrypted lead (take o.count bytes))) >>= λ all.
     Ok (entry_left all (drop o.count bytes)))
 
 -- word: a line after a text
@@ -38,7 +38,7 @@ piece_onto operator lead text waits bytes (Some o) = entry_onto lead (text ++ fr
 -- word: the piece at the front after a text
 unfoldable pub read_onto : List ℕ → ℕ → List ℕ → Bool → List ℕ → Result PieceRead FontFault
 read_onto operator lead text waits bytes =
-    if length bytes == 0 then Err (fault_at Nowhere D4)
+    if length bytes == 0 then Err (font_fault_at Nowhere D4)
     else piece_onto operator lead text waits bytes (first_opening operator (places_from 0 (front_line bytes)))
 
 -- word: lines that are read, after a text
@@ -48,4 +48,4 @@ text_onto text (Err fault) = Err fault
 
 -- word: the lines of the private text after a text, at the end of which an entry may wait for its closing text
 unfoldable pub private_onto : List ℕ → ℕ → List ℕ → Bool → List ℕ → Result (List ℕ × List ℕ) FontFault
-private_onto operator lead text waits bytes = text_onto text (pieces_text operator lead (pieces (piece_left operator) bytes) waits)
+private_onto operator lead text waits bytes = text_onto text (entry_pieces_text operator lead (pieces (piece_left operator) bytes) waits)

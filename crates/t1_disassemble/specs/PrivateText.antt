@@ -13,7 +13,7 @@ use Rattle.t1_disassemble.specs.Cuts.{pieces}
 use Rattle.t1_disassemble.specs.Front.{front_line, past_line}
 use Rattle.t1_disassemble.specs.Layouts.{are_one, one_line}
 use Rattle.t1_disassemble.specs.Opening.{Opening, first_opening}
-use Rattle.t1_disassemble.specs.Outcome.{fault_at, reported_at}
+use Rattle.t1_disassemble.specs.Outcome.{font_fault_at, font_reported_at}
 use Rattle.t1_disassemble.specs.Words.{words_of_encrypted, printed_words}
 
 -- profile: what stands between two entries, or lines: the closing text of an entry that waits for it, or a line as it stands
@@ -39,8 +39,8 @@ pub record PieceRead : Type 0 where
 -- Type 1 Font Format, 2.4 (Subrs and CharStrings): an entry with its charstring's words, and what stands before it
 abbrev pub entry_piece : ℕ → List ℕ → Opening → List ℕ → Result PieceRead FontFault
 entry_piece lead front o bytes =
-    if nat_lt (length bytes) o.count then Err (fault_at (Entry o.name) D5)
-    else (reported_at (Entry o.name) (words_of_encrypted lead (take o.count bytes)) >>= λ words.
+    if nat_lt (length bytes) o.count then Err (font_fault_at (Entry o.name) D5)
+    else (font_reported_at (Entry o.name) (words_of_encrypted lead (take o.count bytes)) >>= λ words.
     Ok (record { text = front ++ (head_line o.name ++ printed_words false words); waits = true; rest = drop o.count bytes; is_last = false }))
 
 -- profile, layouts: whether the first line and the next one are one line of the source, on which no entry opens
@@ -86,10 +86,10 @@ before_text others piece =
 
 -- Type 1 Font Format, 2.4: the lines of the pieces that begin at these places, through the one that closes the encrypted part, and
 -- the bytes after it; or the first fault. An entry may wait for its closing text before the first of them
-abbrev pub pieces_text : List ℕ → ℕ → List (List ℕ) → Bool → Result (List ℕ × List ℕ) FontFault
-pieces_text operator lead [] waits = Err (fault_at Nowhere D4)
-pieces_text operator lead (from ∷ others) waits = read_piece operator lead waits from >>= before_text (pieces_text operator lead others)
+abbrev pub entry_pieces_text : List ℕ → ℕ → List (List ℕ) → Bool → Result (List ℕ × List ℕ) FontFault
+entry_pieces_text operator lead [] waits = Err (font_fault_at Nowhere D4)
+entry_pieces_text operator lead (from ∷ others) waits = read_piece operator lead waits from >>= before_text (entry_pieces_text operator lead others)
 
 -- Type 1 Font Format, 2.4: the lines of the private text, and the bytes after its last line; or the first fault
-unfoldable pub private_text : List ℕ → ℕ → List ℕ → Result (List ℕ × List ℕ) FontFault
-private_text operator lead bytes = pieces_text operator lead (pieces (piece_left operator) bytes) false
+unfoldable pub read_private_text : List ℕ → ℕ → List ℕ → Result (List ℕ × List ℕ) FontFault
+read_private_text operator lead bytes = entry_pieces_text operator lead (pieces (piece_left operator) bytes) false

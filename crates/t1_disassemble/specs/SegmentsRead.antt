@@ -9,7 +9,7 @@ use Rattle.t1_disassemble.specs.declared.fault.FontCode.TheVariants.{D2}
 use Rattle.t1_disassemble.specs.declared.fault.FontFault.{FontFault}
 use Rattle.t1_disassemble.specs.declared.fault.FontPlace.TheVariants.{Byte}
 use Rattle.t1_disassemble.specs.Cuts.{pieces}
-use Rattle.t1_disassemble.specs.Outcome.{reported_at}
+use Rattle.t1_disassemble.specs.Outcome.{font_reported_at}
 
 -- Technical Note 5040, 3.3: a segment, of its type
 pub record Segment : Type 0 where
@@ -45,7 +45,7 @@ segment_at (first ∷ kind ∷ rest) = if first == marker then typed_segment kin
 
 -- profile: the same, with a fault at its place in a file of so many bytes
 abbrev pub placed_segment : ℕ → List ℕ → Result (Option (Segment × List ℕ)) FontFault
-placed_segment total rest = reported_at (Byte (total - length rest)) (segment_at rest)
+placed_segment total rest = font_reported_at (Byte (total - length rest)) (segment_at rest)
 
 -- profile: a segment in front of those that come after it; nothing where the file has said its end
 abbrev pub before_others : Result (List Segment) FontFault → Option (Segment × List ℕ) → Result (List Segment) FontFault

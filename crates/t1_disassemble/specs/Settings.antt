@@ -12,8 +12,8 @@ use Rattle.t1_disassemble.specs.declared.fault.FontCode.{FontCode}
 use Rattle.t1_disassemble.specs.declared.fault.FontCode.TheVariants.{D9, D10}
 
 -- Type 1 Font Format, 2.4 (Subrs and CharStrings): whether a line is the Subrs line or the CharStrings line
-abbrev pub is_section : List ℕ → Bool
-is_section l = is_some (subrs_line l) || is_some (glyphs_line l)
+abbrev pub heads_section : List ℕ → Bool
+heads_section l = is_some (subrs_line l) || is_some (glyphs_line l)
 
 -- profile, layouts: without the digits at its end
 abbrev pub undigited : List ℕ → List ℕ
@@ -29,7 +29,7 @@ begins_section l = ends_in_key l || ends_in_key (undigited (trimmed l))
 
 -- Type 1 Font Format, 2.4 (Subrs and CharStrings): whether a section begins on a line
 abbrev pub opens_section : List ℕ → Bool
-opens_section l = is_section l || begins_section l
+opens_section l = heads_section l || begins_section l
 
 -- Type 1 Font Format, 2.4 (RD): the operator that the first line with `string currentfile` defines, before the first section; else RD
 abbrev pub reading_operator : List (List ℕ) → List ℕ

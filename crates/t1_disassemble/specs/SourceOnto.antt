@@ -9,7 +9,7 @@ use Rattle.t1_disassemble.specs.CutDigits.{with_digits}
 use Rattle.t1_disassemble.specs.Decipher.{decrypted_private}
 use Rattle.t1_disassemble.specs.Disassembly.{coded_bytes, coded_place, tail_after}
 use Rattle.t1_disassemble.specs.Kinds.{single_sections}
-use Rattle.t1_disassemble.specs.Outcome.{reported_at}
+use Rattle.t1_disassemble.specs.Outcome.{font_reported_at}
 use Rattle.t1_disassemble.specs.PiecesOnto.{private_onto}
 use Rattle.t1_disassemble.specs.SegmentsRead.{FontParts}
 use Rattle.t1_disassemble.specs.Settings.{reading_operator, leading_bytes}
@@ -17,7 +17,7 @@ use Rattle.t1_disassemble.specs.Settings.{reading_operator, leading_bytes}
 -- word: the lines of the private text and of the tail, after a text
 abbrev pub plain_onto : List ℕ → FontParts → List ℕ → List ℕ → Result (List ℕ) FontFault
 plain_onto text parts coded plain =
-    reported_at Nowhere (leading_bytes (lines plain)) >>= λ lead.
+    font_reported_at Nowhere (leading_bytes (lines plain)) >>= λ lead.
     with_digits (coded_place parts coded) coded (private_onto (reading_operator (lines plain)) lead text false plain) >>= λ private.
     single_sections (drop (length text) private.0) >>= λ single.
     Ok (private.0 ++ joined (tail_of (lines (tail_after parts coded (4 + (length plain - length private.1))))))
@@ -29,7 +29,7 @@ source_onto text parts coded = plain_onto text parts coded (decrypted_private (c
 -- word: the same, of an encrypted part in binary whose file has segments
 abbrev pub binary_onto : List ℕ → List ℕ → List ℕ → Result (List ℕ) FontFault
 binary_onto text tail plain =
-    reported_at Nowhere (leading_bytes (lines plain)) >>= λ lead.
+    font_reported_at Nowhere (leading_bytes (lines plain)) >>= λ lead.
     private_onto (reading_operator (lines plain)) lead text false plain >>= λ private.
     single_sections (drop (length text) private.0) >>= λ single.
     Ok (private.0 ++ joined (tail_of (lines tail)))

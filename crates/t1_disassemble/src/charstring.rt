@@ -5,7 +5,7 @@ ghost use Rattle.std.specs.Prelude.{Ok, Err, true, false, option_map, nat_eq};
 ghost use Rattle.std.specs.Fmt.{signed_decimal};
 ghost use Rattle.std.specs.Map.{lookup};
 ghost use Rattle.t1_frac.specs.Numbers.{is_number_word};
-ghost use Rattle.t1_disassemble.specs.Outcome.{Gives, reported_at};
+ghost use Rattle.t1_disassemble.specs.Outcome.{GivesFont, font_reported_at};
 ghost use Rattle.t1_disassemble.specs.Words.{one_byte_words, two_byte_words, escaped_at};
 ghost use Rattle.t1_disassemble.specs.Words.{operator_at, positive_at, negative_at, long_at};
 ghost use Rattle.t1_disassemble.specs.Words.{number_at, printed_words, words_of};
@@ -285,10 +285,10 @@ fn push_first<'a>(
     rest: &'a [u8],
 ) -> Result<(usize, bool, &'a [u8]), FontRefusal>
     requires { len ≤ 256 }
-    ensures value { Gives
+    ensures value { GivesFont
         (λ found. (text.new.items ++ take found.0 bytes.new, found.1, found.2.now))
         result
-        (reported_at Nowhere
+        (font_reported_at Nowhere
         (put_first (text.old.items ++ take len bytes.old) is_open first rest.now)) }
     ensures within { IfOk result (λ found. found.0 ≤ 256) }
     ensures shorter { IfOk result (λ found. length found.2.now ≤ length rest.now) }
@@ -302,10 +302,10 @@ fn push_first<'a>(
 /// stand there.
 #[tactic(auto, using(crate::proofs::Reading::push_more, crate::proofs::Reading::push_none))]
 fn push_words(known: &[KnownWord], text: &mut Vec<u8>, code: &[u8]) -> Result<(), FontRefusal>
-    ensures { Gives
+    ensures { GivesFont
         (λ _. text.new.items)
         result
-        (reported_at Nowhere (words_onto text.old.items false (words_of code.now))) }
+        (font_reported_at Nowhere (words_onto text.old.items false (words_of code.now))) }
 {
     let mut bytes = [0; ROOM];
     let mut len = 0;
@@ -332,10 +332,10 @@ pub(crate) fn push_encrypted(
     lead: u8,
     bytes: &[u8],
 ) -> Result<(), FontRefusal>
-    ensures { Gives
+    ensures { GivesFont
         (λ _. text.new.items)
         result
-        (reported_at Nowhere (words_onto text.old.items false
+        (font_reported_at Nowhere (words_onto text.old.items false
         (words_of_encrypted lead bytes.now))) }
 {
     let lead = usize::from(lead);

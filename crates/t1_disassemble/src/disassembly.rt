@@ -4,14 +4,15 @@ ghost use Rattle.std.specs.Prelude.{length, IfOk, OnOk};
 ghost use Rattle.t1_text.specs.Lines.{begins_with, lines, joined};
 ghost use Rattle.t1_code.specs.Pfb.{marker};
 ghost use Rattle.t1_parts.specs.Parts.{tail_of};
-ghost use Rattle.t1_disassemble.specs.CutDigits.{is_early, is_cut, digits_refusal, with_digits};
+ghost use Rattle.t1_disassemble.specs.CutDigits.{is_early, is_cut, with_digits};
+ghost use Rattle.t1_disassemble.specs.CutWords.{digits_refusal};
 ghost use Rattle.t1_disassemble.specs.Decipher.{deciphered, decrypted_private};
 ghost use Rattle.t1_disassemble.specs.Digits.{is_hexadecimal};
 ghost use Rattle.t1_disassemble.specs.Disassembly.{coded_bytes, coded_place, after_coded};
 ghost use Rattle.t1_disassemble.specs.Disassembly.{tail_after, source_of, disassembled};
 ghost use Rattle.t1_disassemble.specs.Front.{after_eexec, past_spaces};
-ghost use Rattle.t1_disassemble.specs.Lent.{parts_of};
-ghost use Rattle.t1_disassemble.specs.Outcome.{Gives};
+ghost use Rattle.t1_disassemble.specs.Lent.{lent_parts};
+ghost use Rattle.t1_disassemble.specs.Outcome.{GivesFont};
 ghost use Rattle.t1_disassemble.specs.PiecesOnto.{private_onto};
 ghost use Rattle.t1_disassemble.specs.SourceOnto.{plain_onto, source_onto, binary_onto};
 
@@ -92,7 +93,7 @@ fn after_coded(coded: &[u8], count: usize) -> &[u8]
 /// The text after the encrypted part: that of a file's segments, else what the private text leaves.
 fn tail_after<'a>(parts: &LentParts<'a>, coded: &'a [u8], count: usize) -> &'a [u8]
     requires { count < 2 ^ 63 }
-    ensures { result.now ≡ tail_after (parts_of parts.now) coded.now count }
+    ensures { result.now ≡ tail_after (lent_parts parts.now) coded.now count }
 {
     if parts.coded.is_empty() {
         return after_coded(coded, count);
@@ -150,7 +151,7 @@ fn push_checked<'a>(
     plain: &'a [u8],
 ) -> Result<&'a [u8], FontRefusal>
     requires { place + length coded.now < 2 ^ 64 }
-    ensures value { Gives
+    ensures value { GivesFont
         (λ rest. (text.new.items, rest.now))
         result
         (with_digits place coded.now
@@ -165,7 +166,7 @@ fn push_checked<'a>(
 
 /// How many bytes of a file stand before the encrypted ones, without the heads of its segments.
 fn coded_place(parts: &LentParts, coded: &[u8]) -> usize
-    ensures value { result ≡ coded_place (parts_of parts.now) coded.now }
+    ensures value { result ≡ coded_place (lent_parts parts.now) coded.now }
     ensures within { result + length coded.now < 2 ^ 64 }
 {
     (parts.clear.len() + parts.coded.len()).saturating_sub(coded.len())
@@ -181,10 +182,10 @@ fn push_plain(
     plain: &[u8],
 ) -> Result<(), FontRefusal>
     requires { length plain.now < 2 ^ 63 - 4 }
-    ensures { Gives
+    ensures { GivesFont
         (λ _. text.new.items)
         result
-        (plain_onto text.old.items (parts_of parts.now) coded.now plain.now) }
+        (plain_onto text.old.items (lent_parts parts.now) coded.now plain.now) }
 {
     let lead = leading_bytes(plain)?;
     let settings = Settings {
@@ -214,10 +215,10 @@ fn push_source(
     parts: &LentParts,
     coded: &[u8],
 ) -> Result<(), FontRefusal>
-    ensures { Gives
+    ensures { GivesFont
         (λ _. text.new.items)
         result
-        (source_onto text.old.items (parts_of parts.now) coded.now) }
+        (source_onto text.old.items (lent_parts parts.now) coded.now) }
 {
     let bytes = plain_bytes(alloc, coded)?;
     push_plain(alloc, text, parts, coded, past_lead(&bytes))
@@ -230,7 +231,7 @@ fn push_segmented(
     plain: &[u8],
     tail: &[u8],
 ) -> Result<(), FontRefusal>
-    ensures { Gives
+    ensures { GivesFont
         (λ _. text.new.items)
         result
         (binary_onto text.old.items tail.now plain.now) }
@@ -255,7 +256,7 @@ fn push_binary(
     coded: &mut [u8],
     tail: &[u8],
 ) -> Result<(), FontRefusal>
-    ensures { Gives
+    ensures { GivesFont
         (λ _. text.new.items)
         result
         (binary_onto text.old.items tail.now (decrypted_private coded.old)) }
@@ -302,7 +303,7 @@ fn push_on_line(
     after: &[u8],
     tail: &[u8],
 ) -> Result<(), FontRefusal>
-    ensures { Gives
+    ensures { GivesFont
         (λ _. text.new.items)
         result
         (source_onto text.old.items
@@ -327,7 +328,7 @@ fn push_joined(
     coded: &[u8],
     tail: &[u8],
 ) -> Result<(), FontRefusal>
-    ensures { Gives
+    ensures { GivesFont
         (λ _. text.new.items)
         result
         (source_onto text.old.items
@@ -350,7 +351,7 @@ fn push_coded(
     coded: &mut [u8],
     tail: &[u8],
 ) -> Result<(), FontRefusal>
-    ensures { Gives
+    ensures { GivesFont
         (λ _. text.new.items)
         result
         (source_onto text.old.items
@@ -374,7 +375,7 @@ fn source_of_parts(
     coded: &mut [u8],
     tail: &[u8],
 ) -> Result<Vec<u8>, FontRefusal>
-    ensures { Gives
+    ensures { GivesFont
         (λ text. text.items)
         result
         (source_of (record { clear = clear.now; coded = coded.old; tail = tail.now })
@@ -396,7 +397,7 @@ fn source_of_parts(
 #[tactic(auto, unfolding(crate::specs::Disassembly::disassembled, crate::specs::SegmentsRead::font_parts))]
 fn source_of_segments(alloc: Global, file: &[u8]) -> Result<Vec<u8>, FontRefusal>
     requires { begins_with marker file.now ≡ true }
-    ensures { Gives (λ text. text.items) result (disassembled file.now) }
+    ensures { GivesFont (λ text. text.items) result (disassembled file.now) }
 {
     let Parts { clear, coded, tail } = segmented_parts(alloc, file)?;
     let mut coded = coded;
@@ -408,7 +409,7 @@ fn source_of_segments(alloc: Global, file: &[u8]) -> Result<Vec<u8>, FontRefusal
 /// source it takes at most once the memory of the file where the encrypted part is in binary.
 #[tactic(auto, unfolding(crate::specs::Disassembly::disassembled, crate::specs::SegmentsRead::font_parts))]
 pub fn disassemble(alloc: Global, file: &[u8]) -> Result<Vec<u8>, FontRefusal>
-    ensures { Gives (λ text. text.items) result (disassembled file.now) }
+    ensures { GivesFont (λ text. text.items) result (disassembled file.now) }
 {
     if has_segments(file) {
         return source_of_segments(alloc, file);
@@ -421,7 +422,7 @@ pub fn disassemble(alloc: Global, file: &[u8]) -> Result<Vec<u8>, FontRefusal>
 /// takes no copy of the encrypted part. Of the file nothing is known afterwards.
 #[tactic(auto, unfolding(crate::specs::Disassembly::disassembled, crate::specs::SegmentsRead::font_parts))]
 pub fn disassemble_in_place(alloc: Global, file: &mut [u8]) -> Result<Vec<u8>, FontRefusal>
-    ensures { Gives (λ text. text.items) result (disassembled file.old) }
+    ensures { GivesFont (λ text. text.items) result (disassembled file.old) }
 {
     let Some((text_len, binary_len)) = front_lens(file) else {
         return disassemble(alloc, file);

@@ -95,9 +95,9 @@ impl From<FontCode> for FontRefusal {
     ghost use Rattle.std.specs.Prelude.{◌≡◌};
     ghost use Rattle.t1_disassemble.specs.declared.fault.FontRefusal.TheVariants as refusals;
     ghost use Rattle.t1_disassemble.specs.declared.fault.FontPlace.TheVariants.{Nowhere};
-    ghost use Rattle.t1_disassemble.specs.Outcome.{fault_at};
+    ghost use Rattle.t1_disassemble.specs.Outcome.{font_fault_at};
 
-    ghost from_gives = { λ code refused. refused ≡ refusals.Fault (fault_at Nowhere code) };
+    ghost from_gives = { λ code refused. refused ≡ refusals.Fault (font_fault_at Nowhere code) };
 
     /// The fault of a call that knows no place.
     fn from(code: FontCode) -> FontRefusal {

@@ -5,7 +5,8 @@ ghost use Rattle.std.specs.Prelude.{MatchResult};
 ghost use Rattle.std.specs.List.{prefix_len};
 ghost use Rattle.t1_text.specs.Lines.{lines};
 ghost use Rattle.t1_parts.specs.Sections.{subrs_line, glyphs_line};
-ghost use Rattle.t1_disassemble.specs.Kinds.{without, plain_kind, is_line_of, slashless};
+ghost use Rattle.t1_disassemble.specs.Kinds.{without, plain_kind, is_line_of};
+ghost use Rattle.t1_disassemble.specs.CutWords.{slashless};
 ghost use Rattle.t1_disassemble.specs.Kinds.{has_second};
 ghost use Rattle.t1_disassemble.specs.Kinds.{single_sections};
 

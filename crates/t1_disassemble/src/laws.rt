@@ -19,7 +19,7 @@ ghost use Rattle.t1_disassemble.specs.Decipher.{deciphered, decrypted_charstring
 ghost use Rattle.t1_disassemble.specs.Decipher.{decrypted_private};
 ghost use Rattle.t1_disassemble.specs.Digits.{digit_bytes, after_digits};
 ghost use Rattle.t1_disassemble.specs.Disassembly.{disassembled};
-ghost use Rattle.t1_disassemble.specs.Laws.{whole, raw, plain_item, items_text, IsBlock, IsEnd};
+ghost use Rattle.t1_disassemble.specs.Laws.{blocks_bytes, raw_file, plain_item, items_text, IsBlock, IsEnd};
 ghost use Rattle.t1_disassemble.specs.Laws.{AreBytes, IsReadBack};
 ghost use Rattle.t1_disassemble.specs.SegmentsRead.{font_parts};
 ghost use Rattle.t1_disassemble.specs.Words.{words_of};
@@ -53,11 +53,11 @@ pub fn command_words_say_commands()
 pub fn parts_come_back_from_segments()
     ensures { (clear coded tail : List (List ℕ)) (end : List ℕ) → AllByRecursion IsBlock clear
         → AllByRecursion IsBlock coded → AllByRecursion IsBlock tail
-        → 0 < length (whole coded) → IsEnd end
+        → 0 < length (blocks_bytes coded) → IsEnd end
         → font_parts (flat_map (segment ascii_segment) clear
         ++ (flat_map (segment binary_segment) coded
         ++ (flat_map (segment ascii_segment) tail ++ end)))
-        ≡ Ok (record { clear = whole clear; coded = whole coded; tail = whole tail }) }
+        ≡ Ok (record { clear = blocks_bytes clear; coded = blocks_bytes coded; tail = blocks_bytes tail }) }
 {}
 
 /// The three parts of an assembled PFB file come back, whatever its blocks.
@@ -112,7 +112,7 @@ pub fn source_comes_back_from_raw()
         (last bytes trailer : List ℕ)
         → IsReadBack clear operator lead items last → items_text lead operator items ≡ Ok bytes
         → begins_with marker (joined clear) ≡ false
-        → disassembled (raw (joined clear) (bytes ++ (last ++ line_feed ∷ [])) trailer)
+        → disassembled (raw_file (joined clear) (bytes ++ (last ++ line_feed ∷ [])) trailer)
         ≡ Ok (text (record {
           clear = clear;
           items = map plain_item items ++ Plain last ∷ [];

@@ -10,7 +10,7 @@ ghost use Rattle.t1_disassemble.specs.Front.{line_len};
 ghost use Rattle.t1_disassemble.specs.Layouts.{are_one, one_line};
 ghost use Rattle.t1_disassemble.specs.Opened.{opening_of};
 ghost use Rattle.t1_disassemble.specs.Opening.{first_opening};
-ghost use Rattle.t1_disassemble.specs.Outcome.{Gives, reported_at};
+ghost use Rattle.t1_disassemble.specs.Outcome.{GivesFont, font_reported_at};
 ghost use Rattle.t1_disassemble.specs.PieceLeft.{piece_of};
 ghost use Rattle.t1_disassemble.specs.Placed.{IsPlaced};
 ghost use Rattle.t1_disassemble.specs.PiecesOnto.{line_onto, entry_left, entry_onto, read_onto};
@@ -117,10 +117,10 @@ fn push_charstring(
     opening: &Opening,
     bytes: &[u8],
 ) -> Result<(), FontRefusal>
-    ensures { Gives
+    ensures { GivesFont
         (λ _. text.new.items)
         result
-        (reported_at (Entry (opening_of opening.now).name) (words_onto text.old.items false
+        (font_reported_at (Entry (opening_of opening.now).name) (words_onto text.old.items false
         (words_of_encrypted lead bytes.now))) }
 {
     match push_encrypted(known, text, buffer, lead, bytes) {
@@ -168,7 +168,7 @@ fn push_entry<'a>(
     opening: &Opening,
     bytes: &'a [u8],
 ) -> Result<&'a [u8], FontRefusal>
-    ensures { Gives
+    ensures { GivesFont
         (λ rest. entry_left text.new.items rest.now)
         result
         (entry_onto lead text.old.items (opening_of opening.now) bytes.now) }
@@ -267,7 +267,7 @@ fn push_piece<'a>(
     bytes: &'a [u8],
 ) -> Result<Piece<'a>, FontRefusal>
     requires { end ≡ line_len bytes.now }
-    ensures value { Gives
+    ensures value { GivesFont
         (λ piece. piece_of text.new.items piece)
         result
         (read_onto settings.now.operator.now settings.now.lead text.old.items waits bytes.now) }
@@ -304,7 +304,7 @@ pub(crate) fn push_private<'a>(
     settings: &Settings,
     bytes: &'a [u8],
 ) -> Result<&'a [u8], FontRefusal>
-    ensures value { Gives
+    ensures value { GivesFont
         (λ rest. (text.new.items, rest.now))
         result
         (private_onto settings.now.operator.now settings.now.lead text.old.items false bytes.now) }

@@ -4,7 +4,7 @@ ghost use Rattle.std.specs.Prelude.{MatchResult, OnOk, Ok, Err, ℕ, List, [], �
 ghost use Rattle.t1_text.specs.Lines.{begins_with};
 ghost use Rattle.t1_code.specs.Pfb.{marker};
 ghost use Rattle.t1_disassemble.specs.InPlace.{IsFront, GivesTail, tailless};
-ghost use Rattle.t1_disassemble.specs.Outcome.{Gives, fault_at};
+ghost use Rattle.t1_disassemble.specs.Outcome.{GivesFont, font_fault_at};
 ghost use Rattle.t1_disassemble.specs.declared.fault.FontPlace.TheVariants.{Byte};
 ghost use Rattle.t1_disassemble.specs.SegmentsRead.{segment_after, typed_segment, segment_at};
 ghost use Rattle.t1_disassemble.specs.SegmentsRead.{placed_segment, segments_of, no_parts};
@@ -179,7 +179,7 @@ pub(crate) fn has_segments(file: &[u8]) -> bool
 /// The parts that the segments of a file hold.
 #[tactic(auto, using(crate::proofs::Segmented::parts_more))]
 pub(crate) fn segmented_parts(alloc: Global, bytes: &[u8]) -> Result<Parts, FontRefusal>
-    ensures { Gives
+    ensures { GivesFont
         (λ parts. parts)
         result
         (parts_onto no_parts (segments_of (length bytes.now) bytes.now)) }

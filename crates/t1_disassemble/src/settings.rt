@@ -8,7 +8,7 @@ ghost use Rattle.t1_text.specs.Tokens.{places_from};
 ghost use Rattle.t1_parts.specs.Operator.{text_place, name_within, operator_on};
 ghost use Rattle.t1_parts.specs.Parts.{ends_in};
 ghost use Rattle.t1_parts.specs.Sections.{subrs_line, glyphs_line};
-ghost use Rattle.t1_disassemble.specs.Settings.{is_section, undigited, ends_in_key, begins_section};
+ghost use Rattle.t1_disassemble.specs.Settings.{heads_section, undigited, ends_in_key, begins_section};
 ghost use Rattle.t1_disassemble.specs.Settings.{opens_section, lead_said, reading_operator};
 ghost use Rattle.t1_disassemble.specs.Settings.{leading_bytes};
 
@@ -35,7 +35,7 @@ pub(crate) fn is_glyphs_line(line: &[u8]) -> bool
 /// Whether a line is the Subrs line or the CharStrings line.
 pub(crate) fn is_section(line: &[u8]) -> bool
     requires { length line.now < 2 ^ 63 }
-    ensures { result ≡ is_section line.now }
+    ensures { result ≡ heads_section line.now }
 {
     is_subrs_line(line) || is_glyphs_line(line)
 }

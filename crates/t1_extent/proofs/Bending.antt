@@ -9,7 +9,8 @@ use Rattle.t1_run.specs.declared.outline.Segment.{Segment}
 use Rattle.t1_run.specs.declared.outline.Segment.TheVariants.{Line, Curve}
 use Rattle.t1_run.specs.Composite.{IsWithin}
 use Rattle.t1_afm.specs.Differences.{picked_sum, least_sum, greatest_sum}
-use Rattle.t1_afm.specs.Points.{cubic_values, points_of, points}
+use Rattle.t1_afm.specs.Points.{points_of, points}
+use Rattle.t1_afm.specs.CubicValues.{cubic_values}
 use Rattle.t1_extent.specs.declared.sides.Sides.{Sides}
 use Rattle.t1_extent.specs.Ends.{ends_of, ends, bends_of, bends}
 use Rattle.t1_extent.specs.Extremes.{Extremes, lesser, greater, extremes, unite_extremes, IsWhole, IsWholeSegment}

@@ -18,7 +18,7 @@ use Rattle.t1_frac.specs.declared.fault.Code.TheVariants.{F40}
 use Rattle.t1_extent.specs.declared.exact.Exact.{Exact}
 use Rattle.t1_run.specs.declared.outline.Point.{Point}
 use Rattle.t1_run.proofs.FoundByUsers.{both-ways}
-use Rattle.t1_extent.specs.Exacts.{raw, exact_value}
+use Rattle.t1_extent.specs.Exacts.{kept_number, exact_value}
 use Rattle.t1_frac.proofs.Exact.{lowest_same}
 use Rattle.t1_frac.proofs.Rounded.{round_alike}
 use Rattle.t1_extent.specs.Extremes.{Extremes, is_less, lesser, greater, reaching, shifted, shift_checked, limit_check, move_check, shifted_by}
@@ -117,11 +117,11 @@ past_terms p q e f =
     ap (λ (r : Fraction). if exceeds (2 ^ 20) r then Err F40 else Ok (lowest r)) (sym e) ∙ ap (λ t. if t then Err F40 else Ok (lowest p)) f
 
 -- what the limit leaves of moved terms
-pub shifted_from : (r : Result Exact Code) (a : Exact) (d p : Fraction) → 0 < a.den → 0 < d.den → p ≡ plus (raw a) d
-    → MatchResult r (λ e. (raw e ≡ p) × (exceeds (2 ^ 20) p ≡ false)) (λ c. (c ≡ F40) × (exceeds (2 ^ 20) p ≡ true))
+pub shifted_from : (r : Result Exact Code) (a : Exact) (d p : Fraction) → 0 < a.den → 0 < d.den → p ≡ plus (kept_number a) d
+    → MatchResult r (λ e. (kept_number e ≡ p) × (exceeds (2 ^ 20) p ≡ false)) (λ c. (c ≡ F40) × (exceeds (2 ^ 20) p ≡ true))
     → MatchResult r (λ e. shift_checked d (exact_value a) ≡ Ok (exact_value e)) (λ c. shift_checked d (exact_value a) ≡ Err c)
-shifted_from (Ok e) a d p ha hd is h = shift_raw (raw a) d ha hd ∙ alike_terms (raw e) p (plus (raw a) d) is h.1 h.0
-shifted_from (Err c) a d p ha hd is h = shift_raw (raw a) d ha hd ∙ past_terms p (plus (raw a) d) is h.1 ∙ ap Err (sym h.0)
+shifted_from (Ok e) a d p ha hd is h = shift_raw (kept_number a) d ha hd ∙ alike_terms (kept_number e) p (plus (kept_number a) d) is h.1 h.0
+shifted_from (Err c) a d p ha hd is h = shift_raw (kept_number a) d ha hd ∙ past_terms p (plus (kept_number a) d) is h.1 ∙ ap Err (sym h.0)
 
 -- ---- read from 64 and 128 bits
 
@@ -154,13 +154,13 @@ pub less_wide : (a b : Exact) (x y : ℤ) → mag x < 2 ^ 127 → mag y < 2 ^ 12
     → int_lt (to_z w128 (of_z w128 x)) (to_z w128 (of_z w128 y)) ≡ is_less (exact_value a) (exact_value b)
 less_wide a b x y h k e f =
     ap (λ z. int_lt z (to_z w128 (of_z w128 y))) (read_wide x h ∙ e) ∙ ap (λ z. int_lt (a.num *ℤ pos b.den) z) (read_wide y k ∙ f)
-    ∙ sym (less_value (raw a) (raw b) a.above b.above)
+    ∙ sym (less_value (kept_number a) (kept_number b) a.above b.above)
 
 -- where it is moved, it is the number, moved
-pub shifted_value : (r : Result Exact Code) (a : Exact) (d p : Fraction) → 0 < a.den → 0 < d.den → p ≡ plus (raw a) d
-    → MatchResult r (λ e. (raw e ≡ p) × (exceeds (2 ^ 20) p ≡ false)) (λ c. (c ≡ F40) × (exceeds (2 ^ 20) p ≡ true))
+pub shifted_value : (r : Result Exact Code) (a : Exact) (d p : Fraction) → 0 < a.den → 0 < d.den → p ≡ plus (kept_number a) d
+    → MatchResult r (λ e. (kept_number e ≡ p) × (exceeds (2 ^ 20) p ≡ false)) (λ c. (c ≡ F40) × (exceeds (2 ^ 20) p ≡ true))
     → IfOk r (λ e. exact_value e ≡ shifted d (exact_value a))
-shifted_value (Ok e) a d p ha hd is h = ap lowest (h.0 ∙ is) ∙ sym (shifted_lowest d (raw a) hd ha)
+shifted_value (Ok e) a d p ha hd is h = ap lowest (h.0 ∙ is) ∙ sym (shifted_lowest d (kept_number a) hd ha)
 shifted_value (Err c) a d p ha hd is h = tt
 
 pub product_small : (a b : ℕ) → (a ≤ 2 ^ 20) ⊎ (b ≡ 1) → a ≤ 2 ^ 40 → b ≤ 2 ^ 20 → a * b ≤ 2 ^ 40
@@ -258,8 +258,8 @@ whole_moved d n m e h k = rw e (mul-le-mul h k)
 pub moved_whole : (d n m k : ℕ) → d ≡ n * m → m ≡ 1 → n ≤ k → d ≤ k
 moved_whole d n m k e one h = rw (e, one) (omega (arith, h))
 
-pub shifted_fine : (r : Result Exact Code) (a : Exact) (d p : Fraction) → p ≡ plus (raw a) d
-    → MatchResult r (λ e. (raw e ≡ p) × (exceeds (2 ^ 20) p ≡ false)) (λ c. (c ≡ F40) × (exceeds (2 ^ 20) p ≡ true))
+pub shifted_fine : (r : Result Exact Code) (a : Exact) (d p : Fraction) → p ≡ plus (kept_number a) d
+    → MatchResult r (λ e. (kept_number e ≡ p) × (exceeds (2 ^ 20) p ≡ false)) (λ c. (c ≡ F40) × (exceeds (2 ^ 20) p ≡ true))
     → IfOk r (λ e. e.den ≡ a.den * d.den)
 shifted_fine (Ok e) a d p is h = ap (λ (f : Fraction). f.den) (h.0 ∙ is)
 shifted_fine (Err c) a d p is h = tt

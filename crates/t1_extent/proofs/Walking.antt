@@ -1,7 +1,8 @@
 -- How far the outlines of glyphs reach, by what is kept of their runs.
 use Rattle.std.proofs.Common.{◌≡◌, ℕ, zero, suc, ◌-◌, List, ◌++◌, append_assoc, refl, sym, ap, ◌∙◌, subst, Option, Some, None, arith}
 use Rattle.std.specs.Prelude.{Result, Ok, Err, IsOk}
-use Rattle.t1_frac.specs.Outcome.{◌>>=◌, Refuses, refusal, reported_at}
+use Rattle.t1_frac.specs.Outcome.{◌>>=◌, Refuses, reported_at}
+use Rattle.t1_frac.specs.Refusals.{refusal}
 use Rattle.t1_frac.specs.declared.fault.Code.{Code}
 use Rattle.t1_frac.specs.declared.fault.Code.TheVariants.{F46}
 use Rattle.t1_frac.specs.declared.fault.Place.TheVariants.{Nowhere}

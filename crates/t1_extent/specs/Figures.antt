@@ -9,7 +9,7 @@ use Rattle.t1_extent.specs.declared.distance.Distance.{Distance}
 use Rattle.t1_extent.specs.declared.figure.Figure.{Figure}
 use Rattle.t1_extent.specs.Extremes.{corners, extremes, is_whole_outline}
 use Rattle.t1_extent.specs.Laws.{AreWithin}
-use Rattle.t1_extent.specs.Exacts.{raw, extremes_of}
+use Rattle.t1_extent.specs.Exacts.{kept_number, extremes_of}
 
 -- word: where an outline starts
 abbrev pub first_point : List Segment → Option Point
@@ -23,7 +23,7 @@ apart from to = record { x = minus to.x from.x; y = minus to.y from.y }
 
 -- word: the distance, as a pair of fractions
 abbrev pub distance_of : Distance → Point
-distance_of d = record { x = raw d.x; y = raw d.y }
+distance_of d = record { x = kept_number d.x; y = kept_number d.y }
 
 -- word: both denominators are those of a run
 pub record IsFineDistance (d : Distance) : Type 0 where

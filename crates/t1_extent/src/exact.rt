@@ -34,11 +34,11 @@ impl Exact {
     ghost use Rattle.t1_extent.specs.Extremes.{greater as greater_of, shifted as shifted_of};
     ghost use Rattle.t1_extent.specs.Extremes.{shift_checked};
     ghost use Rattle.t1_afm.specs.Bounds.{over_cube as cube_of};
-    ghost use Rattle.t1_extent.specs.Exacts.{raw, exact_value};
+    ghost use Rattle.t1_extent.specs.Exacts.{kept_number, exact_value};
 
     /// A whole number.
     pub fn whole(n: i32) -> Exact
-        ensures { raw result ≡ whole_of n }
+        ensures { kept_number result ≡ whole_of n }
     {
         Exact {
             num: i64::from(n),
@@ -49,7 +49,7 @@ impl Exact {
     /// A whole number of 39 bits.
     pub(crate) fn over_one(n: i64) -> Exact
         requires { unsigned_abs n ≤ 2 ^ 38 }
-        ensures value { raw result ≡ whole_of n }
+        ensures value { kept_number result ≡ whole_of n }
         ensures fine { result.den ≡ 1 }
     {
         Exact { num: n, den: 1 }
@@ -58,7 +58,7 @@ impl Exact {
     /// A coordinate.
     pub fn of(a: &Frac) -> Exact
         requires { IsCoordinate a.now }
-        ensures value { raw result ≡ a.now }
+        ensures value { kept_number result ≡ a.now }
         ensures fine { result.den ≤ 2 ^ 20 }
     {
         Exact {
@@ -70,7 +70,7 @@ impl Exact {
     /// A sum over 64^3.
     pub fn over_cube(sum: i64) -> Exact
         requires { unsigned_abs sum ≤ 2 ^ 38 }
-        ensures value { raw result ≡ cube_of sum }
+        ensures value { kept_number result ≡ cube_of sum }
         ensures fine { result.den ≤ 2 ^ 20 }
     {
         Exact {
@@ -117,7 +117,7 @@ impl Exact {
     /// The whole number below it, in 128 bits.
     #[tactic(auto, using(crate::proofs::Exacts::floor_small))]
     fn floor_wide(&self) -> i128
-        ensures value { result ≡ floor_of (raw self.now) }
+        ensures value { result ≡ floor_of (kept_number self.now) }
         ensures size { unsigned_abs result ≤ 2 ^ 61 }
     {
         i128::from(self.num).div_euclid(i128::from(self.den))
@@ -133,7 +133,7 @@ impl Exact {
 
     /// Less than nothing by as much.
     fn negated(&self) -> Exact
-        ensures { raw result ≡ negated_of (raw self.now) }
+        ensures { kept_number result ≡ negated_of (kept_number self.now) }
     {
         Exact {
             num: -self.num,
@@ -155,7 +155,7 @@ impl Exact {
         requires fine { den ≤ 2 ^ 40 }
         ensures { MatchResult result
             (λ e.
-            (raw e ≡ record { num = num; den = den })
+            (kept_number e ≡ record { num = num; den = den })
             × (exceeds (2 ^ 20) (record { num = num; den = den }) ≡ false))
             (λ c. (c ≡ F40) × (exceeds (2 ^ 20) (record { num = num; den = den }) ≡ true)) }
     {
@@ -170,7 +170,7 @@ impl Exact {
 
     /// The numerator of its sum with a distance.
     fn moved_num(&self, by: &Frac) -> i128
-        ensures { result ≡ (plus (raw self.now) by.now).num }
+        ensures { result ≡ (plus (kept_number self.now) by.now).num }
     {
         let left = scaled(self.num, by.den().unsigned_abs());
         let right = scaled(by.num(), self.den);
@@ -199,7 +199,7 @@ impl Exact {
         requires from { IsCoordinate from.now }
         requires to { IsCoordinate to.now }
         requires whole { from.now.den ≡ 1 }
-        ensures value { raw result ≡ minus to.now from.now }
+        ensures value { kept_number result ≡ minus to.now from.now }
         ensures fine { result.den ≤ 2 ^ 20 }
     {
         Exact {
@@ -210,7 +210,7 @@ impl Exact {
 
     /// The numerator of its sum with another.
     fn sum_num(&self, other: &Exact) -> i128
-        ensures { result ≡ (plus (raw self.now) (raw other.now)).num }
+        ensures { result ≡ (plus (kept_number self.now) (kept_number other.now)).num }
     {
         let left = scaled(self.num, other.den);
         let right = scaled(other.num, self.den);
@@ -223,10 +223,10 @@ impl Exact {
         requires by { by.now.den ≤ 2 ^ 20 }
         ensures outcome { MatchResult
             result
-            (λ e. shift_checked (raw by.now) (exact_value self.now) ≡ Ok (exact_value e))
-            (λ c. shift_checked (raw by.now) (exact_value self.now) ≡ Err c) }
+            (λ e. shift_checked (kept_number by.now) (exact_value self.now) ≡ Ok (exact_value e))
+            (λ c. shift_checked (kept_number by.now) (exact_value self.now) ≡ Err c) }
         ensures value { IfOk result
-            (λ e. exact_value e ≡ shifted_of (raw by.now) (exact_value self.now)) }
+            (λ e. exact_value e ≡ shifted_of (kept_number by.now) (exact_value self.now)) }
         ensures fine { IfOk result (λ e. e.den ≡ self.now.den * by.now.den) }
     {
         let num = self.sum_num(by);

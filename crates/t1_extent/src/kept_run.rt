@@ -6,7 +6,8 @@ ghost use Rattle.t1_code.specs.Encoding.{is_standard_name as is_standard};
 ghost use Rattle.t1_run.specs.Composite.{HasStandardParts, IsWithin};
 ghost use Rattle.t1_afm.specs.Box.{drawn_box};
 ghost use Rattle.t1_extent.specs.Extremes.{is_whole_outline as is_whole};
-ghost use Rattle.t1_extent.specs.Kept.{IsShape, IsTrace, has_trace, kept_as, segments_kept, traces};
+ghost use Rattle.t1_extent.specs.Kept.{has_trace, traces};
+ghost use Rattle.t1_extent.specs.Traces.{IsShape, IsTrace, kept_as, segments_kept};
 ghost use Rattle.t1_extent.specs.Reached.{IsReach};
 
 use crate::boxes::drawn_bbox;
@@ -97,7 +98,8 @@ pub struct KeptRun {
 impl Model for KeptRun {
     ghost use Rattle.std.specs.Prelude.{◌≡◌, All, IfSome};
     ghost use Rattle.t1_run.specs.Composite.{HasStandardParts, IsWithin};
-    ghost use Rattle.t1_extent.specs.Kept.{IsShape, TracedRun, has_trace};
+    ghost use Rattle.t1_extent.specs.Kept.{TracedRun, has_trace};
+    ghost use Rattle.t1_extent.specs.Traces.{IsShape};
 
     ghost Value = { TracedRun };
 

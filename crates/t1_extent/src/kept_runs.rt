@@ -3,7 +3,7 @@
 ghost use Rattle.std.specs.Prelude.{◌≡◌, List, ℕ, Option, Result, option_map};
 ghost use Rattle.t1_frac.specs.declared.fault.Code.{Code};
 ghost use Rattle.t1_run.specs.Run.{Drawing};
-ghost use Rattle.t1_extent.specs.Kept.{drawing_lent, IsTraced};
+ghost use Rattle.t1_extent.specs.Traces.{drawing_lent, IsTraced};
 
 use crate::kept_run::KeptRun;
 use t1_frac::Code;

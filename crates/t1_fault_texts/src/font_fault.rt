@@ -1,6 +1,6 @@
 //! A fault of a font's file, by its code and its place.
 ghost use Rattle.std.specs.Prelude.{◌≡◌, ◌++◌, decimal, drop, IfOk};
-ghost use Rattle.t1_code.specs.Counted.{Writes};
+ghost use Rattle.t1_code.specs.Writing.{Writes};
 ghost use Rattle.t1_code.specs.Parts.{slices_bytes};
 ghost use Rattle.t1_fault_texts.specs.FontFaults.{font_code_name, font_entry_text};
 ghost use Rattle.t1_fault_texts.specs.FontFaults.{font_fault_text};

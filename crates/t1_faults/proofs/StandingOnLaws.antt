@@ -18,7 +18,7 @@ use Rattle.t1_font.specs.Glyphs.{glyph_names}
 use Rattle.t1_font.specs.ToRun.{font_to_run}
 use Rattle.t1_faults.specs.declared.call_chains.CallChain.{CallChain}
 use Rattle.t1_faults.specs.declared.found.FoundFault.{FoundFault}
-use Rattle.t1_faults.specs.Composites.{OwnRuns, composites_of, each_with, faulty_of_run, faulty_under, faulty_within, found_of_parts, is_chain_of, is_entry_of, is_first_naming, names_glyph, with_composites}
+use Rattle.t1_faults.specs.Composites.{OwnRuns, composites_of, each_with, faulty_of_run, faulty_under, faulty_within, found_of_parts, is_chain_of, is_place_of_glyph, is_first_naming, names_glyph, with_composites}
 use Rattle.t1_chain.specs.GlyphFailures.{parts_found}
 use Rattle.t1_faults.specs.Judging.{entries_in, faults_alone, faults_read, source_faults}
 use Rattle.t1_faults.specs.Reading.{placed_reading, reading_fault}
@@ -133,8 +133,8 @@ composites_there bytes = by (reads bytes) where
 told_naming : (code : Code) (p : List ℕ) (faults : List FoundFault) → IsTold code (places.Glyph p) faults → list_any (names_glyph p) faults ≡ true
 told_naming code p [] h = absurd h
 told_naming code p (fault ∷ faults) (inl h) =
-    let here : is_entry_of p fault.place ≡ true = ap (is_entry_of p) h.1 ∙ bytes_self p in
-    or_left (names_glyph p fault) (list_any (names_glyph p) faults) (or_left (is_entry_of p fault.place) (list_any (is_chain_of p) fault.chains) here)
+    let here : is_place_of_glyph p fault.place ≡ true = ap (is_place_of_glyph p) h.1 ∙ bytes_self p in
+    or_left (names_glyph p fault) (list_any (names_glyph p) faults) (or_left (is_place_of_glyph p fault.place) (list_any (is_chain_of p) fault.chains) here)
 told_naming code p (fault ∷ faults) (inr h) = or_right (names_glyph p fault) (list_any (names_glyph p) faults) (told_naming code p faults h)
 
 chain_naming : (p : List ℕ) (chains : List CallChain) → HasChain p chains → list_any (is_chain_of p) chains ≡ true
@@ -146,7 +146,7 @@ met_naming : (code : Code) (p : List ℕ) (faults : List FoundFault) → IsMet c
 met_naming code p [] h = absurd h
 met_naming code p (fault ∷ faults) (inl h) =
     or_left (names_glyph p fault) (list_any (names_glyph p) faults)
-    (or_right (is_entry_of p fault.place) (list_any (is_chain_of p) fault.chains) (chain_naming p fault.chains h.1))
+    (or_right (is_place_of_glyph p fault.place) (list_any (is_chain_of p) fault.chains) (chain_naming p fault.chains h.1))
 met_naming code p (fault ∷ faults) (inr h) = or_right (names_glyph p fault) (list_any (names_glyph p) faults) (met_naming code p faults h)
 
 pub naming : (code : Code) (p : List ℕ) (faults : List FoundFault) → IsTold code (places.Glyph p) faults ⊎ IsMet code p faults → list_any (names_glyph p) faults ≡ true

@@ -8,7 +8,8 @@ use Rattle.t1_frac.specs.declared.fault.Place.TheVariants.{Nowhere}
 use Rattle.t1_frac.specs.declared.fault.Refusal.{Refusal}
 use Rattle.t1_frac.specs.declared.fault.Refusal.TheVariants as refusals
 use Rattle.t1_code.specs.declared.command.Command.{Command}
-use Rattle.t1_code.specs.Words.{after_others, command_of_word, command_then, commands}
+use Rattle.t1_code.specs.Words.{command_of_word, command_then, commands}
+use Rattle.t1_code.specs.FoundCommands.{after_others}
 use Rattle.t1_faults.specs.Found.{refused_code}
 
 -- the commands of one word

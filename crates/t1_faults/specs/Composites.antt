@@ -18,9 +18,9 @@ OwnRuns = List ℕ → Option (Result Drawing Code)
 -- ---- the glyphs that a fault names
 
 -- profile, faults: whether a place is the entry of this glyph
-abbrev pub is_entry_of : List ℕ → Place → Bool
-is_entry_of g (places.Glyph h) = bytes_eq g h
-is_entry_of g place = false
+abbrev pub is_place_of_glyph : List ℕ → Place → Bool
+is_place_of_glyph g (places.Glyph h) = bytes_eq g h
+is_place_of_glyph g place = false
 
 -- profile, faults: whether a chain is of this glyph
 abbrev pub is_chain_of : List ℕ → CallChain → Bool
@@ -28,7 +28,7 @@ is_chain_of g chain = bytes_eq g chain.glyph
 
 -- profile, faults: whether a fault names this glyph: it stands in the glyph's entry, or the glyph's run met it in a Subr
 abbrev pub names_glyph : List ℕ → FoundFault → Bool
-names_glyph g fault = is_entry_of g fault.place || list_any (is_chain_of g) fault.chains
+names_glyph g fault = is_place_of_glyph g fault.place || list_any (is_chain_of g) fault.chains
 
 -- profile, faults: whether a fault is the first that names this glyph: it does, and none of those before it does
 abbrev pub is_first_naming : List FoundFault → FoundFault → List ℕ → Bool

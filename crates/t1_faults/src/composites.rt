@@ -8,9 +8,9 @@ ghost use Rattle.std.specs.Str.{bytes_eq};
 ghost use Rattle.t1_font.specs.Glyphs.{glyph_names as names_of_glyphs};
 ghost use Rattle.t1_font.specs.Runs.{drawing_in};
 ghost use Rattle.t1_faults.specs.Composites.{faulty_under, faulty_within, is_chain_of};
-ghost use Rattle.t1_faults.specs.Composites.{is_entry_of, names_glyph, with_composites, with_names};
+ghost use Rattle.t1_faults.specs.Composites.{is_place_of_glyph, names_glyph, with_composites, with_names};
 ghost use Rattle.t1_faults.specs.GlyphRuns.{composites_kept, composites_on, each_numbered};
-ghost use Rattle.t1_faults.specs.GlyphRuns.{first_naming, has_number, number_kept};
+ghost use Rattle.t1_faults.specs.GlyphRuns.{first_naming, is_number_met, number_kept};
 
 use crate::call_chains::CallChain;
 use crate::found::FoundFault;
@@ -53,7 +53,7 @@ fn keep_for_entry(
     ensures { OnOk result ((g : List ℕ) → number_kept numbers.new.entries g
         ≡ option_or
         (number_kept numbers.old.entries g)
-        (if is_entry_of g place.now then Some number else None)) }
+        (if is_place_of_glyph g place.now then Some number else None)) }
 {
     match place {
         Place::Glyph(name) => keep_number(alloc, numbers, name.as_slice(), number),
@@ -202,7 +202,7 @@ fn numbers_under(
 
 /// Whether a number is among others.
 fn has_number(numbers: &[usize], number: usize) -> bool
-    ensures { result ≡ has_number numbers.now number }
+    ensures { result ≡ is_number_met numbers.now number }
 {
     numbers.iter().any(|other| number == *other)
 }
@@ -258,9 +258,9 @@ fn add_last(
     name: &[u8],
 ) -> Result<(), AllocError>
     ensures { OnOk result ((n : ℕ) → composites_kept composites.new.entries n
-        ++ (if has_number after.now n then name.now ∷ [] else [])
+        ++ (if is_number_met after.now n then name.now ∷ [] else [])
         ≡ composites_kept composites.old.entries n
-        ++ (if nat_eq n number || has_number after.now n then name.now ∷ [] else [])) }
+        ++ (if nat_eq n number || is_number_met after.now n then name.now ∷ [] else [])) }
 {
     if has_number(after, number) {
         return Ok(());
@@ -278,7 +278,7 @@ fn add_to_each(
 ) -> Result<(), AllocError>
     ensures { OnOk result ((n : ℕ) → composites_kept composites.new.entries n
         ≡ composites_kept composites.old.entries n
-        ++ (if has_number numbers.now n then name.now ∷ [] else [])) }
+        ++ (if is_number_met numbers.now n then name.now ∷ [] else [])) }
 {
     let mut rest = numbers;
     while let Some((number, after)) = rest.split_first() {

@@ -7,7 +7,7 @@ use Rattle.t1_frac.specs.declared.fault.Fault.{Fault}
 use Rattle.t1_frac.specs.Outcome.{◌>>=◌}
 use Rattle.t1_parts.specs.declared.item.Item.{Item}
 use Rattle.t1_parts.specs.declared.item.Item.TheVariants.{Plain, Section, Subr, Glyph}
-use Rattle.t1_parts.specs.Items.{line_says, stands_alone}
+use Rattle.t1_parts.specs.Stretches.{line_says, stands_alone}
 use Rattle.t1_source.specs.Editing.{is_subr_entry}
 use Rattle.t1_source.specs.WellFormed.{is_counted}
 use Rattle.t1_font.specs.Bodies.{bodies_check, body_check, glyph_among, glyph_in, subr_among, subr_in}

@@ -3,7 +3,8 @@ use Rattle.std.proofs.Common.{◌≡◌, ◌+◌, ◌<◌, ◌||◌, ℕ, suc, B
 use Rattle.std.specs.Borrow.{Bor}
 use Rattle.std.specs.List.{list_any}
 use Rattle.std.specs.Str.{bytes_eq}
-use Rattle.t1_code.specs.Encoding.{has_name, is_standard_name, standard_names}
+use Rattle.t1_code.specs.Encoding.{is_standard_name, standard_names}
+use Rattle.t1_code.specs.EncodingRows.{has_name}
 use Rattle.t1_font.proofs.Lookups.{bytes-turned}
 
 -- a row of the table has the name

@@ -4,7 +4,8 @@ ghost use Rattle.std.specs.Option.{option_copied, option_or};
 ghost use Rattle.std.specs.Result.{result_ok};
 ghost use Rattle.t1_frac.specs.Outcome.{Gives, reported_at};
 ghost use Rattle.t1_frac.specs.declared.fault.Place.TheVariants as places;
-ghost use Rattle.t1_code.specs.Words.{after_others, commands};
+ghost use Rattle.t1_code.specs.Words.{commands};
+ghost use Rattle.t1_code.specs.FoundCommands.{after_others};
 ghost use Rattle.t1_font.specs.Bodies.{words_check};
 ghost use Rattle.t1_font.specs.StoredSubrs.{subr_stored};
 

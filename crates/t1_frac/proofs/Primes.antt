@@ -5,7 +5,8 @@ use Rattle.std.specs.Int.{IsGcd}
 use Rattle.std.proofs.Math.Nat.{div_self}
 use Rattle.std.proofs.lemmas.Int.{to_z-of_z, to_z_pos}
 use Rattle.std.proofs.lemmas.Nat.Gcd.{IsGcd-from_zero, IsGcd-from_mod}
-use Rattle.t1_frac.specs.Fraction.{Fraction, gcd, lowest, IsSmallPrime}
+use Rattle.t1_frac.specs.Fraction.{Fraction, gcd, lowest}
+use Rattle.t1_frac.specs.SmallPrimes.{IsSmallPrime}
 use Rattle.t1_frac.proofs.Divisors.{IsGcd-gcd, gcd_is}
 use Rattle.t1_frac.proofs.Exact.{lowest_coprime_terms}
 

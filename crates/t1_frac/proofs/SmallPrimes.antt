@@ -5,7 +5,8 @@ use Rattle.std.specs.Int.RustNames.{unsigned_abs}
 use Rattle.std.proofs.Math.Nat.{div-mul_cancel, div-le_self, one-dvd, dvd-mul_left, dvd-mul_right, eq-one_of_dvd-one, mul-le-mul_left}
 use Prim.Native.Nat.{◌∣◌}
 use Rattle.std.proofs.lemmas.Nat.Gcd.{dvd_trans, dvd_of_mod-eq-zero}
-use Rattle.t1_frac.specs.Fraction.{Fraction, IsSame, IsLowest, lowest, gcd, signed_like, IsSmallPrime}
+use Rattle.t1_frac.specs.Fraction.{Fraction, IsSame, IsLowest, lowest, gcd, signed_like}
+use Rattle.t1_frac.specs.SmallPrimes.{IsSmallPrime}
 use Rattle.t1_frac.proofs.Coordinates.{read_again}
 use Rattle.t1_frac.proofs.Divisors.{IsGcd-gcd}
 use Rattle.t1_frac.proofs.Exact.{abs_neg, neg_mul}

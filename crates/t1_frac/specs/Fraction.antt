@@ -1,5 +1,5 @@
 -- Fractions of whole numbers, the values of a charstring.
-use Rattle.std.specs.Prelude.{◌≡◌, ◌⊎◌, ℕ, zero, suc, ◌+◌, ◌*◌, ◌/◌, ◌%◌, ◌<◌, ℤ, pos, negsuc, neg_ℤ, ◌+ℤ◌, ◌*ℤ◌}
+use Rattle.std.specs.Prelude.{◌≡◌, ℕ, zero, suc, ◌+◌, ◌*◌, ◌/◌, ◌%◌, ◌<◌, ℤ, pos, negsuc, neg_ℤ, ◌+ℤ◌, ◌*ℤ◌}
 use Rattle.std.specs.declared.cmp.Ordering.{Ordering}
 use Rattle.std.specs.Int.{int_div_euclid, IsGcd}
 use Rattle.std.specs.Int.RustNames.{int_div, unsigned_abs}
@@ -19,10 +19,6 @@ gcd_within (suc k) a (suc b) = gcd_within k (suc b) (a % suc b)
 -- profile, fractions: the greatest common divisor
 unfoldable pub gcd : ℕ → ℕ → ℕ
 gcd a b = gcd_within (b + 1) a b
-
--- word, fractions: one of the first primes
-abbrev pub IsSmallPrime : ℕ → Type 0
-IsSmallPrime n = (n ≡ 2) ⊎ (n ≡ 3) ⊎ (n ≡ 5) ⊎ (n ≡ 7)
 
 -- profile, fractions: two are equal where their cross products are
 abbrev pub IsSame : Fraction → Fraction → Type 0

@@ -3,6 +3,8 @@ pub mod Fraction
 pub mod Limits
 pub mod Numbers
 pub mod Outcome
+pub mod Refusals
 pub mod Rounding
 pub mod Runs
+pub mod SmallPrimes
 pub mod Words

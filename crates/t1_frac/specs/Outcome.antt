@@ -3,22 +3,12 @@ use Rattle.std.specs.Prelude.{◌≡◌, Result, Ok, Err}
 use Rattle.t1_frac.specs.declared.fault.Code.{Code}
 use Rattle.t1_frac.specs.declared.fault.Fault.{Fault}
 use Rattle.t1_frac.specs.declared.fault.Place.{Place}
-use Rattle.t1_frac.specs.declared.fault.Place.TheVariants.{Nowhere}
 use Rattle.t1_frac.specs.declared.fault.Refusal.{Refusal}
 use Rattle.t1_frac.specs.declared.fault.Refusal.TheVariants as refusals
 
 -- profile, faults: the fault of a code at a place
 abbrev pub fault_at : Place → Code → Fault
 fault_at place code = record { code = code; place = place }
-
--- word, faults: the refusal by a code that knows no place
-abbrev pub refusal : Code → Refusal
-refusal code = refusals.Fault (fault_at Nowhere code)
-
--- word, faults: the refusal, with its fault reported at this place
-abbrev pub placed : Place → Refusal → Refusal
-placed place (refusals.Fault fault) = refusals.Fault (fault_at place fault.code)
-placed place refusals.Memory = refusals.Memory
 
 -- profile, faults: the outcome, with its fault reported at this place
 abbrev pub reported_at : {X : Type 0} → Place → Result X Code → Result X Fault

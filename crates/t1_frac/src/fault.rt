@@ -105,7 +105,7 @@ pub enum Refusal {
 
 impl Refusal {
     ghost use Rattle.std.specs.Prelude.{◌≡◌};
-    ghost use Rattle.t1_frac.specs.Outcome.{placed};
+    ghost use Rattle.t1_frac.specs.Refusals.{placed};
 
     /// The same refusal, its fault at this place.
     pub fn at(self, place: Place) -> Refusal
@@ -150,7 +150,7 @@ impl From<Fault> for Refusal {
 
 impl From<Code> for Refusal {
     ghost use Rattle.std.specs.Prelude.{◌≡◌};
-    ghost use Rattle.t1_frac.specs.Outcome.{refusal};
+    ghost use Rattle.t1_frac.specs.Refusals.{refusal};
 
     ghost from_gives = { λ code refused. refused ≡ refusal code };
 

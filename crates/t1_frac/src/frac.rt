@@ -3,7 +3,8 @@
 ghost use Rattle.std.specs.Prelude.{◌≡◌, ◌≢◌, ◌+ℤ◌, ◌*ℤ◌, pos, ◌*◌, ◌%◌, ◌^◌, ◌≤◌, ◌<◌, ◌==◌, IfOk};
 ghost use Rattle.std.specs.Prelude.{MatchResult, Ok, Err, true};
 ghost use Rattle.std.specs.Int.RustNames.{unsigned_abs};
-ghost use Rattle.t1_frac.specs.Fraction.{whole as whole_of, gcd as gcd_of, IsLowest, IsSmallPrime};
+ghost use Rattle.t1_frac.specs.Fraction.{whole as whole_of, gcd as gcd_of, IsLowest};
+ghost use Rattle.t1_frac.specs.SmallPrimes.{IsSmallPrime};
 ghost use Rattle.t1_frac.specs.Fraction.{lowest, plus, negated as negated_of, over, compared};
 ghost use Rattle.t1_frac.specs.Fraction.{floor_of, ceiling_of, nearest_of};
 ghost use Rattle.t1_frac.specs.Limits.{IsCoordinate, coordinate_sum, coordinate_difference};

@@ -1,7 +1,8 @@
 //! The greatest common divisor.
 
 ghost use Rattle.std.specs.Prelude.{◌≡◌, true};
-ghost use Rattle.t1_frac.specs.Fraction.{gcd as gcd_of, IsSmallPrime};
+ghost use Rattle.t1_frac.specs.Fraction.{gcd as gcd_of};
+ghost use Rattle.t1_frac.specs.SmallPrimes.{IsSmallPrime};
 
 use crate::division::remainder;
 

@@ -4,7 +4,8 @@
 ghost use Rattle.std.specs.Prelude.{◌≡◌, ℕ, ◌*◌, ◌%◌, ◌<◌, ◌≤◌, ◌^◌, pos, IfSome};
 ghost use Rattle.std.specs.Int.{IsGcd};
 ghost use Rattle.std.specs.Int.RustNames.{unsigned_abs};
-ghost use Rattle.t1_frac.specs.Fraction.{lowest, signed_like, IsSmallPrime};
+ghost use Rattle.t1_frac.specs.Fraction.{lowest, signed_like};
+ghost use Rattle.t1_frac.specs.SmallPrimes.{IsSmallPrime};
 
 /// A numerator without its sign, and its denominator, in two factors: one that has no divisor in
 /// common with the numerator, and the rest of it, of which nothing is known.

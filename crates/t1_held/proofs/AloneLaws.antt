@@ -5,7 +5,7 @@ use Rattle.std.proofs.lemmas.Bool.{cases_Bool}
 use Rattle.t1_frac.specs.Outcome.{◌>>=◌}
 use Rattle.t1_parts.specs.declared.item.Item.{Item}
 use Rattle.t1_parts.specs.declared.item.Item.TheVariants.{Plain, Section, Subr, Glyph}
-use Rattle.t1_parts.specs.Items.{line_says, stands_alone}
+use Rattle.t1_parts.specs.Stretches.{line_says, stands_alone}
 use Rattle.t1_held.specs.Passing.{after_item, after_items, item_put, items_put, Sought}
 
 -- no changes in front

@@ -19,7 +19,8 @@ use Rattle.t1_source.specs.Changes.{changed}
 use Rattle.t1_source.specs.WellFormed.{is_counted, IsWellFormed}
 use Rattle.t1_source.proofs.WellFormedEditedLaws.{edited_well_formed}
 use Rattle.t1_source.proofs.WellFormedSourceLaws.{source_well_formed}
-use Rattle.t1_run.specs.Run.{Subr, Glyph, key_eq}
+use Rattle.t1_run.specs.Run.{Subr, Glyph}
+use Rattle.t1_run.specs.RunKeys.{key_eq}
 use Rattle.t1_font.specs.Assembly.{file_check}
 use Rattle.t1_font.specs.Glyphs.{glyph_names}
 use Rattle.t1_font.specs.Runs.{Counts}

@@ -6,7 +6,8 @@ use Rattle.std.specs.Cmp.{both_ways}
 use Rattle.std.proofs.lemmas.Bool.{or_left, or_right}
 use Rattle.t1_frac.specs.declared.fault.Code.{Code}
 use Rattle.t1_run.specs.Footprint.{Includes, uses}
-use Rattle.t1_run.specs.Run.{FontBodies, Key, Drawing, own, key_eq}
+use Rattle.t1_run.specs.Run.{FontBodies, Key, Drawing, own}
+use Rattle.t1_run.specs.RunKeys.{key_eq}
 use Rattle.t1_run.specs.Touched.{is_key_of, is_named, is_touched, meets_parts, meets_run, touched_within}
 use Rattle.t1_font.specs.Bodies.{bodies}
 use Rattle.t1_font.specs.Glyphs.{glyph_names}

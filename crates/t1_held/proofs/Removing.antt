@@ -21,7 +21,8 @@ use Rattle.t1_parts.specs.Entries.{is_glyph, is_subr}
 use Rattle.t1_parts.specs.SourceParts.{SourceParts}
 use Rattle.t1_source.specs.WellFormed.{Stand}
 use Rattle.t1_run.specs.Footprint.{Includes}
-use Rattle.t1_run.specs.Run.{Key, Subr, Glyph, key_eq}
+use Rattle.t1_run.specs.Run.{Key, Subr, Glyph}
+use Rattle.t1_run.specs.RunKeys.{key_eq}
 use Rattle.t1_font.specs.Bodies.{bodies_check, words_check}
 use Rattle.t1_font.specs.Glyphs.{glyph_names}
 use Rattle.t1_cache.specs.declared.records.Named.{Named}

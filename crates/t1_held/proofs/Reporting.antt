@@ -11,7 +11,8 @@ use Rattle.t1_frac.specs.declared.fault.Refusal.{Refusal}
 use Rattle.t1_frac.specs.declared.fault.Refusal.TheVariants as refusals
 use Rattle.t1_frac.specs.Outcome.{◌>>=◌, Gives, Refuses}
 use Rattle.t1_parts.specs.SourceParts.{SourceParts}
-use Rattle.t1_run.specs.Run.{Key, Glyph, key_eq}
+use Rattle.t1_run.specs.Run.{Key, Glyph}
+use Rattle.t1_run.specs.RunKeys.{key_eq}
 use Rattle.t1_run.specs.Touched.{is_named}
 use Rattle.t1_run.proofs.Within.{each-append}
 use Rattle.t1_font.specs.Assembly.{file_check}

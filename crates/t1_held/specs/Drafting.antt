@@ -7,7 +7,8 @@ use Rattle.t1_source.specs.declared.edit.Cause.{Cause}
 use Rattle.t1_source.specs.declared.edit.Edit.{Edit}
 use Rattle.t1_source.specs.Editing.{edited}
 use Rattle.t1_source.specs.WellFormed.{IsWellFormed}
-use Rattle.t1_run.specs.Run.{Key, key_eq}
+use Rattle.t1_run.specs.Run.{Key}
+use Rattle.t1_run.specs.RunKeys.{key_eq}
 use Rattle.t1_run.specs.Touched.{is_key_of}
 use Rattle.t1_font.specs.Bodies.{bodies_check, body_check}
 use Rattle.t1_font.specs.Glyphs.{glyph_names}

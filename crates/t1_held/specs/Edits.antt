@@ -5,10 +5,11 @@ use Rattle.t1_parts.specs.SourceParts.{SourceParts}
 use Rattle.t1_source.specs.declared.edit.Edit.{Edit}
 use Rattle.t1_source.specs.declared.editing.change.Change.{Change}
 use Rattle.t1_pairs.specs.declared.pairs.Pair.{Pair}
-use Rattle.t1_source.specs.Changes.{changed, Serves}
+use Rattle.t1_source.specs.Changes.{changed, Suits}
 use Rattle.t1_source.specs.Editing.{edited}
 use Rattle.t1_source.specs.WellFormed.{IsWellFormed}
-use Rattle.t1_run.specs.Run.{Key, key_eq}
+use Rattle.t1_run.specs.Run.{Key}
+use Rattle.t1_run.specs.RunKeys.{key_eq}
 use Rattle.t1_font.specs.Assembly.{file_check}
 use Rattle.t1_font.specs.Bodies.{bodies_check}
 use Rattle.t1_font.specs.Glyphs.{glyph_names}
@@ -50,7 +51,7 @@ keys_of (edits.Batch source made entries) = keys (map entry_edit entries.items)
 pub record IsPreparedEdit (s : SourceParts) (k : List Pair) (edit : Edit) (change : Change) (h : Held) : Type 0 where
   pub held : IsHeld s h
   pub well : IsWellFormed s
-  pub serves : Serves change s k
+  pub serves : Suits change s k
   pub made : edited s k edit ≡ Ok (changed change s k)
 
 -- word, edits: the edits keep the edit rules and make this source of one of which this is held: one edit, and

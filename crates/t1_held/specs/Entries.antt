@@ -1,7 +1,8 @@
 -- The charstrings of the entries that edits name.
 use Rattle.std.specs.Prelude.{ℕ, List, [], ◌∷◌, filter, is_none, Option, None, if◌then◌else◌}
 use Rattle.std.specs.Option.{option_map, option_or}
-use Rattle.t1_run.specs.Run.{Key, key_eq}
+use Rattle.t1_run.specs.Run.{Key}
+use Rattle.t1_run.specs.RunKeys.{key_eq}
 use Rattle.t1_charstrings.specs.Entries.{KeptCharstring, encrypted}
 use Rattle.t1_cache.specs.EditKeys.{key_of}
 use Rattle.t1_rerun.specs.declared.entry_change.EntryChange.{EntryChange}

@@ -2,7 +2,8 @@
 use Rattle.std.specs.Prelude.{◌≡◌, ℕ, List}
 use Rattle.std.specs.List.{list_any}
 use Rattle.t1_parts.specs.SourceParts.{SourceParts}
-use Rattle.t1_run.specs.Run.{Key, key_eq}
+use Rattle.t1_run.specs.Run.{Key}
+use Rattle.t1_run.specs.RunKeys.{key_eq}
 use Rattle.t1_cache.specs.Edited.{is_stale, stale, IsEditedAt}
 
 -- word: each key is among both or among neither

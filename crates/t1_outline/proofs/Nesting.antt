@@ -14,7 +14,7 @@ use Rattle.t1_code.specs.declared.command.Command.{Command}
 use Rattle.t1_run.specs.declared.outline.Composite.{Composite}
 use Rattle.t1_run.specs.declared.outline.Segment.{Segment}
 use Rattle.t1_run.specs.Composite.{drawn, with_parts, joined_outline, outline_within}
-use Rattle.t1_run.specs.Machine.{GivesOwn}
+use Rattle.t1_run.specs.OwnRuns.{GivesOwn}
 use Rattle.t1_run.specs.Run.{FontBodies, Drawing, NumberedRun, body_stop, outcome_of, own, own_of}
 use Rattle.t1_extent.proofs.Walking.{Kept, composed}
 use Rattle.t1_outline.specs.Counting.{runs_for_parts, runs_after, runs_within}

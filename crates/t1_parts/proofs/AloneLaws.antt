@@ -10,7 +10,8 @@ use Rattle.t1_parts.specs.declared.item.Item.TheVariants.{Plain, Section, Subr, 
 use Rattle.t1_parts.specs.declared.stretch.Stretch.{Stretch}
 use Rattle.t1_parts.specs.Counts.{subrs_needed, glyphs_needed, is_glyph_entry}
 use Rattle.t1_parts.specs.LenIV.{says_lead}
-use Rattle.t1_parts.specs.Items.{items_in, one_item, stretch_items, line_items, line_says, lines_say, stands_alone, StandsAloneAt}
+use Rattle.t1_parts.specs.Items.{items_in, stretch_items, line_items}
+use Rattle.t1_parts.specs.Stretches.{one_item, line_says, lines_say, stands_alone, StandsAloneAt}
 
 -- lines that say nothing
 pub silent_filtered : (ls : List (List ℕ)) → lines_say ls ≡ false → filter stands_alone (line_items ls) ≡ []

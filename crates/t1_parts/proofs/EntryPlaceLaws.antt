@@ -13,7 +13,8 @@ use Rattle.t1_parts.specs.declared.item.Item.TheVariants.{Plain}
 use Rattle.t1_parts.specs.declared.stretch.Stretch.{Stretch}
 use Rattle.t1_parts.specs.declared.stretch.Stretch.TheVariants.{One, Lines}
 use Rattle.t1_parts.specs.EntryKeys.{is_entry_of, is_of_kind, IsEntryAt, IsThrough}
-use Rattle.t1_parts.specs.Items.{items_in, stretch_items, line_items, AreSingle, IsPlace}
+use Rattle.t1_parts.specs.Items.{items_in, stretch_items, line_items}
+use Rattle.t1_parts.specs.Stretches.{AreSingle, IsPlaceOfItem}
 use Rattle.t1_parts.proofs.PartLaws.{no_position, cut_position}
 use Rattle.t1_parts.proofs.PlaceLaws.{any_below}
 use Rattle.t1_parts.proofs.SingleLaws.{single_length, single_taken, single_at}
@@ -54,7 +55,7 @@ taken_length i ss d h =
     ap (λ k. length (items_in (take k ss))) next ∙ ap length (taken_further i ss d h) ∙ length-append (items_in (take i ss)) (stretch_items (slice_index_or ss i d))
 
 -- so are those of the stretches through the one in which a place stands
-pub place_covered : (at : ℕ) (ss : List Stretch) (p : ℕ × ℕ) → IsPlace at ss p → (p.1 ≡ 0 → ⊥) → at ≤ length (items_in (take (p.0 + 1) ss))
+pub place_covered : (at : ℕ) (ss : List Stretch) (p : ℕ × ℕ) → IsPlaceOfItem at ss p → (p.1 ≡ 0 → ⊥) → at ≤ length (items_in (take (p.0 + 1) ss))
 place_covered at ss p place some =
     elim (cases_Bool (nat_lt p.0 (length ss))) [
       | inl there ↦

@@ -15,7 +15,8 @@ use Rattle.std.proofs.Math.Bool.{or-false}
 use Rattle.indexmap.specs.IndexSet.{insert_key as put_in}
 use Rattle.t1_parts.specs.declared.item.Item.{Item}
 use Rattle.t1_parts.specs.declared.item.Item.TheVariants.{Plain, Section, Subr, Glyph}
-use Rattle.t1_parts.specs.Entries.{NumberedItem, glyph_name, has_numbered, is_subr, is_glyph}
+use Rattle.t1_parts.specs.Entries.{NumberedItem, has_numbered, is_subr, is_glyph}
+use Rattle.t1_parts.specs.EntryNames.{glyph_name}
 use Rattle.t1_parts.specs.Gathered.{HasNumbers, AreGlyphsNames}
 
 -- an equal key is there already

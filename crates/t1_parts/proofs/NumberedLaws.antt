@@ -12,7 +12,8 @@ use Rattle.t1_parts.specs.declared.stretch.Stretch.{Stretch}
 use Rattle.t1_parts.specs.declared.stretch.Stretch.TheVariants.{One, Lines}
 use Rattle.t1_parts.specs.Entries.{NumberedItem, has_numbered, is_subr, is_glyph}
 use Rattle.t1_parts.specs.Gathered.{HasNumbers, AreGlyphsNames}
-use Rattle.t1_parts.specs.Items.{items_in, line_items, stretch_items, line_says, lines_say}
+use Rattle.t1_parts.specs.Items.{items_in, line_items, stretch_items}
+use Rattle.t1_parts.specs.Stretches.{line_says, lines_say}
 use Rattle.t1_parts.specs.LenIV.{says_lead}
 use Rattle.t1_parts.specs.NumberedStretches.{numbered_lines, numbered_items, numbered_in}
 use Rattle.t1_parts.specs.Reading.{unnumbered}

@@ -7,7 +7,8 @@ use Rattle.std.proofs.Math.Seq.{drop-append-add, take-append_seam}
 use Rattle.std.proofs.Math.Numerals.{one-add}
 use Rattle.t1_frac.specs.Words.{words}
 use Rattle.t1_text.specs.Delimiters.{is_brace, is_safe}
-use Rattle.t1_text.specs.Lines.{begins_with, lines, line_ends, is_line, trimmed}
+use Rattle.t1_text.specs.Lines.{begins_with, lines, is_line, trimmed}
+use Rattle.t1_text.specs.LineEnds.{line_ends}
 use Rattle.t1_text.specs.Tokens.{uncommented}
 use Rattle.t1_text.proofs.LineLaws.{line_len, stays, after_line}
 use Rattle.t1_text.proofs.WholeLines.{whole, left, lines_over, whole_count, whole_words, whole_all, left_all, left_line, line_on, single_line}

@@ -7,7 +7,7 @@ use Rattle.t1_frac.specs.Outcome.{reported_at}
 use Rattle.t1_text.specs.Tokens.{tokens}
 use Rattle.t1_parts.specs.declared.item.Item.TheVariants.{Plain}
 use Rattle.t1_parts.specs.Entries.{NumberedItem, has_numbered, opens_subr, opens_glyph}
-use Rattle.t1_parts.specs.Items.{line_says, lines_say}
+use Rattle.t1_parts.specs.Stretches.{line_says, lines_say}
 use Rattle.t1_parts.specs.NumberedStretches.{numbered_lines}
 use Rattle.t1_parts.specs.PlainRuns.{read_from, may_open_entry, IsPlainAmong, AreAmong}
 use Rattle.t1_parts.specs.Private.{item_in_front, line_item}

@@ -5,7 +5,7 @@ use Rattle.std.proofs.lemmas.Bool.{or_parts}
 use Rattle.std.proofs.lemmas.List.{append_assoc, append-nil}
 use Rattle.t1_text.specs.Lines.{lines}
 use Rattle.t1_text.proofs.LineLaws.{first_line_lem}
-use Rattle.t1_parts.specs.Items.{IsCutAfter}
+use Rattle.t1_parts.specs.Stretches.{IsCutAfter}
 
 -- some bytes have a line
 pub some_lines : (bytes : List ℕ) → 0 < length bytes → 0 < length (lines bytes)

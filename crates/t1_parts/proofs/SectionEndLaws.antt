@@ -11,7 +11,8 @@ use Rattle.t1_parts.specs.declared.stretch.Stretch.{Stretch}
 use Rattle.t1_parts.specs.Counts.{raised_item}
 use Rattle.t1_parts.specs.EntryKeys.{is_section, AreSectionsBefore}
 use Rattle.t1_parts.specs.declared.stretch.Stretch.TheVariants.{One, Lines}
-use Rattle.t1_parts.specs.Items.{items_in, stretch_items, raised_stretch, AreSingle}
+use Rattle.t1_parts.specs.Items.{items_in, stretch_items}
+use Rattle.t1_parts.specs.Stretches.{raised_stretch, AreSingle}
 use Rattle.t1_parts.proofs.StretchLaws.{in_two, length_set, raised_in}
 
 -- ---- the rest of a list after an edit, where a test finds none in the rest

@@ -4,7 +4,8 @@ use Rattle.std.specs.List.{slice_index_or, slice_set, insert, remove}
 use Rattle.std.proofs.lemmas.List.{append_assoc, append-nil, length-append}
 use Rattle.t1_parts.specs.declared.stretch.Stretch.{Stretch}
 use Rattle.t1_parts.specs.declared.stretch.Stretch.TheVariants.{One, Lines}
-use Rattle.t1_parts.specs.Items.{stretch_items, items_in, raised_stretch, AreSingle, IsPlace}
+use Rattle.t1_parts.specs.Items.{stretch_items, items_in}
+use Rattle.t1_parts.specs.Stretches.{raised_stretch, AreSingle, IsPlaceOfItem}
 
 -- ---- places
 
@@ -30,7 +31,7 @@ single_at zero (s ∷ ss) d h within = h.0
 single_at (suc i) (s ∷ ss) d h within = single_at i ss d h.1 (omega (arith, within))
 
 -- a place is its own index
-pub single_place : (at : ℕ) (ss : List Stretch) → AreSingle ss → at ≤ length (items_in ss) → IsPlace at ss (at, 0)
+pub single_place : (at : ℕ) (ss : List Stretch) → AreSingle ss → at ≤ length (items_in ss) → IsPlaceOfItem at ss (at, 0)
 single_place at ss h within =
     let size = single_length ss h in
     let taken = single_taken at ss h (omega (arith, size, within)) in (
@@ -41,7 +42,7 @@ single_place at ss h within =
     )
 
 -- and there is nothing to cut
-pub single_uncut : (at : ℕ) (ss : List Stretch) (p : ℕ × ℕ) (d : Stretch) → AreSingle ss → p.0 < length ss → IsPlace at ss p → 0 < p.1 → ⊥
+pub single_uncut : (at : ℕ) (ss : List Stretch) (p : ℕ × ℕ) (d : Stretch) → AreSingle ss → p.0 < length ss → IsPlaceOfItem at ss p → 0 < p.1 → ⊥
 single_uncut at ss p d h here place some =
     let within = place.2 d here in
     let one = single_at p.0 ss d h here in

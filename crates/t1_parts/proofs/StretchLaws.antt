@@ -8,7 +8,8 @@ use Rattle.t1_parts.specs.declared.item.Item.TheVariants.{Plain}
 use Rattle.t1_parts.specs.declared.stretch.Stretch.{Stretch}
 use Rattle.t1_parts.specs.declared.stretch.Stretch.TheVariants.{One, Lines}
 use Rattle.t1_parts.specs.Counts.{raised_item}
-use Rattle.t1_parts.specs.Items.{line_items, line_says, lines_say, stands_alone, stretch_items, items_in, raised_stretch, IsPlace, StandsAloneAt}
+use Rattle.t1_parts.specs.Items.{line_items, stretch_items, items_in}
+use Rattle.t1_parts.specs.Stretches.{line_says, lines_say, stands_alone, raised_stretch, IsPlaceOfItem, StandsAloneAt}
 
 -- ---- the items of lines
 
@@ -232,7 +233,7 @@ put_past i ss now last t item h e made done =
 -- ---- the steps of an edit
 
 -- a stretch cut so that the item of a place is the first of its stretch
-pub cut_there : (at : ℕ) (ss new : List Stretch) (p : ℕ × ℕ) (s front back : Stretch) → IsPlace at ss p → p.0 < length ss → s ≡ slice_index_or ss p.0 s
+pub cut_there : (at : ℕ) (ss new : List Stretch) (p : ℕ × ℕ) (s front back : Stretch) → IsPlaceOfItem at ss p → p.0 < length ss → s ≡ slice_index_or ss p.0 s
     → stretch_items front ≡ take p.1 (stretch_items s) → stretch_items back ≡ drop p.1 (stretch_items s) → new ≡ cut_in_two p.0 ss front back
     → (items_in new ≡ items_in ss) × (length (items_in (take (p.0 + 1) new)) ≡ at)
 cut_there at ss new p s front back place h is f b made =
@@ -245,7 +246,7 @@ cut_there at ss new p s front back place h is f b made =
     )
 
 -- no stretch of more than one item has one that stands alone
-pub alone_there : (at : ℕ) (ss : List Stretch) (p : ℕ × ℕ) (s : Stretch) → p.0 < length ss → s ≡ slice_index_or ss p.0 s → IsPlace at ss p
+pub alone_there : (at : ℕ) (ss : List Stretch) (p : ℕ × ℕ) (s : Stretch) → p.0 < length ss → s ≡ slice_index_or ss p.0 s → IsPlaceOfItem at ss p
     → 0 < p.1 → ((k : ℕ) (d : Item) → k < length (stretch_items s) → 1 < length (stretch_items s) → stands_alone (slice_index_or (stretch_items s) k d) ≡ false) → StandsAloneAt (items_in ss) at → ⊥
 alone_there at ss p s h is place some silent alone =
     let within = place.2 s h in
@@ -290,7 +291,7 @@ stretch_left at (suc i) (s ∷ ss) size h =
     let more = stretch_left (length (items_in (take i ss))) i ss refl (omega (arith, front, all, size, h)) in
     omega (arith, more)
 
-pub place_left : (at : ℕ) (ss : List Stretch) (p : ℕ × ℕ) → IsPlace at ss p → at < length (items_in ss) → p.0 < length ss
+pub place_left : (at : ℕ) (ss : List Stretch) (p : ℕ × ℕ) → IsPlaceOfItem at ss p → at < length (items_in ss) → p.0 < length ss
 place_left at ss p place h = stretch_left (length (items_in (take p.0 ss))) p.0 ss refl (omega (arith, place.1, h))
 
 pub first_alone : (i : ℕ) (ss : List Stretch) (s : Stretch) → i < length ss → s ≡ slice_index_or ss i s → 0 < length (stretch_items s)
@@ -314,7 +315,7 @@ length_lines (l ∷ ls) = ap suc (length_lines ls)
 -- ---- items in two parts at a place
 
 -- a place within a stretch
-pub split_front : (at : ℕ) (ss before : List Stretch) (p : ℕ × ℕ) (s : Stretch) (front : List Item) → IsPlace at ss p → (p.0 ≡ length ss → ⊥) → s ≡ slice_index_or ss p.0 s → before ≡ take p.0 ss
+pub split_front : (at : ℕ) (ss before : List Stretch) (p : ℕ × ℕ) (s : Stretch) (front : List Item) → IsPlaceOfItem at ss p → (p.0 ≡ length ss → ⊥) → s ≡ slice_index_or ss p.0 s → before ≡ take p.0 ss
     → front ≡ take p.1 (stretch_items s) → items_in before ++ front ≡ take at (items_in ss)
 split_front at ss before p s front place inside is b f =
     let here : p.0 < length ss = omega (arith, place.0, inside) in
@@ -328,7 +329,7 @@ split_front at ss before p s front place inside is b f =
     ∙ ap (λ t. items_in (take p.0 ss) ++ t) (take_append p.1 (stretch_items s) (items_in (drop (suc p.0) ss)) (omega (arith, size, within)) ∙ sym f)
     )
 
-pub split_back : (at : ℕ) (ss after : List Stretch) (p : ℕ × ℕ) (s : Stretch) (back : List Item) → IsPlace at ss p → (p.0 ≡ length ss → ⊥) → s ≡ slice_index_or ss p.0 s → after ≡ drop (p.0 + 1) ss
+pub split_back : (at : ℕ) (ss after : List Stretch) (p : ℕ × ℕ) (s : Stretch) (back : List Item) → IsPlaceOfItem at ss p → (p.0 ≡ length ss → ⊥) → s ≡ slice_index_or ss p.0 s → after ≡ drop (p.0 + 1) ss
     → back ≡ drop p.1 (stretch_items s) → back ++ (items_in after ++ []) ≡ drop at (items_in ss)
 split_back at ss after p s back place inside is a b =
     let here : p.0 < length ss = omega (arith, place.0, inside) in

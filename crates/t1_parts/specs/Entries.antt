@@ -70,11 +70,6 @@ abbrev pub is_glyph : List ℕ → Item → Bool
 is_glyph g (Glyph h ws closing) = bytes_eq g h
 is_glyph g _ = false
 
--- word, entries: the name of an item that is a glyph
-abbrev pub glyph_name : Item → Option (List ℕ)
-glyph_name (Glyph g ws closing) = Some g
-glyph_name _ = None
-
 -- profile, entries: an item, and how many lines it takes after its first
 abbrev pub Taken : Type 0
 Taken = Item × ℕ

@@ -4,7 +4,8 @@ use Rattle.std.specs.Borrow.{Bor}
 use Rattle.std.specs.List.{list_any}
 use Rattle.std.specs.Ordering.{nat_cmp, is_eq}
 use Rattle.std.specs.Str.{bytes_eq}
-use Rattle.t1_parts.specs.Entries.{NumberedItem, glyph_name, has_numbered, is_subr, is_glyph}
+use Rattle.t1_parts.specs.Entries.{NumberedItem, has_numbered, is_subr, is_glyph}
+use Rattle.t1_parts.specs.EntryNames.{glyph_name}
 use Rattle.t1_parts.specs.declared.item.Item.{Item}
 
 -- word: the numbers are those of the Subrs among the items

@@ -2,6 +2,7 @@ pub mod Counts
 pub mod Encoding
 pub mod Entries
 pub mod EntryKeys
+pub mod EntryNames
 pub mod Gathered
 pub mod Header
 pub mod ItemRefs
@@ -19,3 +20,4 @@ pub mod Private
 pub mod Reading
 pub mod Sections
 pub mod SourceParts
+pub mod Stretches

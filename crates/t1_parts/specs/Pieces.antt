@@ -1,7 +1,8 @@
 -- The bytes of a body, cut where a comment begins or where it ends.
 use Rattle.std.specs.Prelude.{◌≡◌, ◌≤◌, ◌+◌, ℕ, Some, None, List, length, drop}
 use Rattle.t1_frac.specs.Words.{words}
-use Rattle.t1_text.specs.Lines.{lines, line_ends}
+use Rattle.t1_text.specs.Lines.{lines}
+use Rattle.t1_text.specs.LineEnds.{line_ends}
 use Rattle.t1_parts.specs.declared.piece.Piece.{Piece}
 use Rattle.t1_parts.specs.declared.piece.Piece.TheVariants.{Commented, Closed, Open}
 use Rattle.t1_parts.specs.Entries.{body_of, with_front}

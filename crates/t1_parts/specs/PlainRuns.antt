@@ -4,7 +4,7 @@ use Rattle.t1_frac.specs.declared.fault.Fault.{Fault}
 use Rattle.t1_text.specs.Tokens.{tokens}
 use Rattle.t1_parts.specs.declared.item.Item.TheVariants.{Plain}
 use Rattle.t1_parts.specs.Entries.{NumberedItem, has_numbered, opens_subr, opens_glyph}
-use Rattle.t1_parts.specs.Items.{line_says}
+use Rattle.t1_parts.specs.Stretches.{line_says}
 use Rattle.t1_parts.specs.Private.{item_in_front, items_after}
 use Rattle.t1_parts.specs.Sections.{is_subrs_line, is_glyphs_line}
 

@@ -1,7 +1,8 @@
 //! The items that never stand among plain lines.
 
 ghost use Rattle.std.specs.Prelude.{◌≡◌, ◌++◌, filter};
-ghost use Rattle.t1_parts.specs.Items.{items_in, one_item, stands_alone, IsNextAlone};
+ghost use Rattle.t1_parts.specs.Items.{items_in};
+ghost use Rattle.t1_parts.specs.Stretches.{one_item, stands_alone, IsNextAlone};
 
 use crate::item::Item;
 use crate::len_iv::line_says;
@@ -20,7 +21,8 @@ pub struct AloneItems<'i, 'a> {
 impl<'i, 'a> Model for AloneItems<'i, 'a> {
     ghost use Rattle.std.specs.Prelude.{List, ◌++◌, filter};
     ghost use Rattle.t1_parts.specs.declared.item.Item.{Item};
-    ghost use Rattle.t1_parts.specs.Items.{items_in, one_item, stands_alone};
+    ghost use Rattle.t1_parts.specs.Items.{items_in};
+    ghost use Rattle.t1_parts.specs.Stretches.{one_item, stands_alone};
 
     ghost Value = { List Item };
 
@@ -29,7 +31,7 @@ impl<'i, 'a> Model for AloneItems<'i, 'a> {
 }
 
 /// Whether an item never stands among plain lines.
-#[tactic(auto, unfolding(crate::specs::Items::stands_alone))]
+#[tactic(auto, unfolding(crate::specs::Stretches::stands_alone))]
 pub(crate) fn stands_alone(item: &Item) -> bool
     ensures { result ≡ stands_alone item.now }
 {

@@ -6,7 +6,8 @@ ghost use Rattle.t1_frac.specs.declared.fault.Place.TheVariants as places;
 ghost use Rattle.t1_frac.specs.Outcome.{Gives, reported_at};
 ghost use Rattle.t1_text.specs.Lines.{begins_with, lines};
 ghost use Rattle.t1_text.specs.Tokens.{tokens};
-ghost use Rattle.t1_parts.specs.Entries.{glyph_name, opens_subr, opens_glyph, opened_body};
+ghost use Rattle.t1_parts.specs.Entries.{opens_subr, opens_glyph, opened_body};
+ghost use Rattle.t1_parts.specs.EntryNames.{glyph_name};
 ghost use Rattle.t1_parts.specs.Entries.{subr_entry, glyph_entry};
 ghost use Rattle.t1_parts.specs.Pieces.{AreLinesAfter};
 

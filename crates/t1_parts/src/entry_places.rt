@@ -3,7 +3,8 @@
 ghost use Rattle.std.specs.Prelude.{◌≡◌, ◌<◌, ◌≤◌, ◌^◌, length, IfSome};
 ghost use Rattle.std.specs.List.{position};
 ghost use Rattle.t1_parts.specs.EntryKeys.{is_entry_of, is_of_kind, IsEntryAt, IsThrough};
-ghost use Rattle.t1_parts.specs.Items.{items_in, AreSingle};
+ghost use Rattle.t1_parts.specs.Items.{items_in};
+ghost use Rattle.t1_parts.specs.Stretches.{AreSingle};
 
 use crate::entry_key::{EntryKey, ItemKind};
 use crate::stretch::Stretch;

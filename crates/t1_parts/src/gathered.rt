@@ -4,7 +4,8 @@ ghost use Rattle.std.specs.Prelude.{◌≡◌, ◌<◌, ◌+◌, ◌^◌, ◌∷
 ghost use Rattle.std.specs.Prelude.{option_map};
 ghost use Rattle.t1_text.specs.Lines.{lines};
 ghost use Rattle.t1_parts.specs.Sections.{is_subrs_line, is_glyphs_line};
-ghost use Rattle.t1_parts.specs.Entries.{glyph_name, has_numbered, is_subr, is_glyph};
+ghost use Rattle.t1_parts.specs.Entries.{has_numbered, is_subr, is_glyph};
+ghost use Rattle.t1_parts.specs.EntryNames.{glyph_name};
 ghost use Rattle.std.specs.List.{find};
 ghost use Rattle.t1_parts.specs.declared.stretch.Stretch.TheVariants as kinds;
 ghost use Rattle.t1_parts.specs.Gathered.{KeepsNames, KeepsNumbers};
@@ -49,7 +50,7 @@ impl<'a> Model for Gathered<'a> {
     ghost use Rattle.t1_parts.specs.Sections.{is_subrs_line, is_glyphs_line};
     ghost use Rattle.t1_parts.specs.Entries.{NumberedItem, has_numbered};
     ghost use Rattle.t1_parts.specs.Gathered.{HasNumbers, AreGlyphsNames};
-    ghost use Rattle.t1_parts.specs.Items.{AreSingle};
+    ghost use Rattle.t1_parts.specs.Stretches.{AreSingle};
     ghost use Rattle.t1_parts.specs.NumberedStretches.{numbered_in};
 
     ghost Value = { List NumberedItem };

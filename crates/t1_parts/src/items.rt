@@ -9,7 +9,8 @@ ghost use Rattle.t1_parts.specs.declared.item.Item.{Item};
 ghost use Rattle.t1_parts.specs.Counts.{raised_item, subrs_needed, glyphs_needed};
 ghost use Rattle.t1_parts.specs.EntryKeys.{is_entry_of, is_of_kind, is_section};
 ghost use Rattle.t1_parts.specs.EntryKeys.{IsEntryAt, IsThrough};
-ghost use Rattle.t1_parts.specs.Items.{items_in, stretch_items, AreSingle, StandsAloneAt};
+ghost use Rattle.t1_parts.specs.Items.{items_in, stretch_items};
+ghost use Rattle.t1_parts.specs.Stretches.{AreSingle, StandsAloneAt};
 ghost use Rattle.t1_parts.specs.ItemRefs.{item_of};
 ghost use Rattle.t1_parts.specs.LenIV.{lead_among, says_lead};
 
@@ -52,7 +53,8 @@ impl<'a> Model for Items<'a> {
     ghost use Rattle.t1_parts.specs.declared.item.Item.{Item};
     ghost use Rattle.t1_parts.specs.Counts.{subrs_needed, glyphs_needed};
     ghost use Rattle.t1_parts.specs.EntryKeys.{is_section};
-    ghost use Rattle.t1_parts.specs.Items.{items_in, AreSingle};
+    ghost use Rattle.t1_parts.specs.Items.{items_in};
+    ghost use Rattle.t1_parts.specs.Stretches.{AreSingle};
     ghost use Rattle.t1_parts.specs.LenIV.{lead_among};
 
     ghost Value = { List Item };

@@ -2,7 +2,8 @@
 
 ghost use Rattle.std.specs.Prelude.{◌≡◌, ◌++◌, ◌∷◌, [], false, filter, length};
 ghost use Rattle.t1_text.specs.Lines.{lines};
-ghost use Rattle.t1_parts.specs.Items.{items_in, line_items, lines_say, stands_alone};
+ghost use Rattle.t1_parts.specs.Items.{items_in, line_items};
+ghost use Rattle.t1_parts.specs.Stretches.{lines_say, stands_alone};
 
 use crate::alone_items::AloneItems;
 use crate::item::Item;
@@ -27,7 +28,8 @@ impl<'i, 'a> Model for ItemsIter<'i, 'a> {
     ghost use Rattle.std.specs.Prelude.{◌≡◌, List, ◌++◌, false, length};
     ghost use Rattle.t1_text.specs.Lines.{lines};
     ghost use Rattle.t1_parts.specs.declared.item.Item.{Item};
-    ghost use Rattle.t1_parts.specs.Items.{items_in, line_items, lines_say, one_item};
+    ghost use Rattle.t1_parts.specs.Items.{items_in, line_items};
+    ghost use Rattle.t1_parts.specs.Stretches.{lines_say, one_item};
 
     ghost Value = { List Item };
 

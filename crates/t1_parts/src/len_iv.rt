@@ -3,7 +3,7 @@
 ghost use Rattle.std.specs.Prelude.{◌≡◌, option_and_then, option_map, filter_map};
 ghost use Rattle.std.specs.List.{find};
 ghost use Rattle.t1_parts.specs.ItemRefs.{item_of};
-ghost use Rattle.t1_parts.specs.Items.{line_says};
+ghost use Rattle.t1_parts.specs.Stretches.{line_says};
 ghost use Rattle.t1_parts.specs.LenIV.{plain_line, said_lead, says_lead, lead_of_token};
 ghost use Rattle.t1_parts.specs.LenIV.{said_with_line, lead_check, lead_among};
 
@@ -36,7 +36,7 @@ fn said_lead<'i>(item: &'i Item) -> Option<Option<&'i [u8]>>
 }
 
 /// Whether a line has a token `/lenIV`.
-#[tactic(auto, unfolding(crate::specs::Items::line_says))]
+#[tactic(auto, unfolding(crate::specs::Stretches::line_says))]
 pub(crate) fn line_says(line: &[u8]) -> bool
     ensures { result ≡ line_says line.now }
 {
@@ -52,7 +52,7 @@ pub fn says_lead(item: &Item) -> bool
 
 impl<'i, 'a> ItemRef<'i, 'a> {
     /// Whether the item is a plain line with a token `/lenIV`.
-    #[tactic(auto, unfolding(crate::specs::Items::line_says))]
+    #[tactic(auto, unfolding(crate::specs::Stretches::line_says))]
     pub fn says_lead(&self) -> bool
         ensures { result ≡ says_lead (item_of self.now) }
     {

@@ -4,7 +4,7 @@ ghost use Rattle.std.specs.Prelude.{◌≡◌, ◌<◌, ◌≤◌, ◌+◌, ◌-
 ghost use Rattle.std.specs.Prelude.{take, drop};
 ghost use Rattle.std.specs.List.{slice_index_or};
 ghost use Rattle.t1_text.specs.Lines.{lines};
-ghost use Rattle.t1_parts.specs.Items.{IsCutAfter, lines_say};
+ghost use Rattle.t1_parts.specs.Stretches.{IsCutAfter, lines_say};
 
 use std::marker::Model;
 use t1_text::first_line;
@@ -23,7 +23,7 @@ impl<'a> Model for PlainLines<'a> {
 
     ghost Value = { List (List ℕ) };
 
-    ghost use Rattle.t1_parts.specs.Items.{lines_say};
+    ghost use Rattle.t1_parts.specs.Stretches.{lines_say};
 
     ghost view = { λ plain. lines plain.bytes.now };
 

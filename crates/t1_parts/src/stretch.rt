@@ -7,7 +7,8 @@ ghost use Rattle.t1_parts.specs.declared.stretch.Stretch.TheVariants as stretche
 ghost use Rattle.t1_parts.specs.EntryKeys.{is_entry_of, is_of_kind};
 ghost use Rattle.t1_parts.specs.LenIV.{says_lead};
 ghost use Rattle.t1_parts.specs.declared.item.Item.{Item};
-ghost use Rattle.t1_parts.specs.Items.{line_items, raised_stretch, stretch_items, stands_alone};
+ghost use Rattle.t1_parts.specs.Items.{line_items, stretch_items};
+ghost use Rattle.t1_parts.specs.Stretches.{raised_stretch, stands_alone};
 ghost use Rattle.t1_parts.specs.ItemRefs.{item_of};
 
 use crate::alone_items::stands_alone;

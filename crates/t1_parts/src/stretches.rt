@@ -3,8 +3,8 @@
 ghost use Rattle.std.specs.Prelude.{◌≡◌, ◌<◌, ◌≤◌, ◌++◌, ◌∷◌, true, length, map, take, drop};
 ghost use Rattle.std.specs.Prelude.{slice_set, IfOk, IfSome, OnOk, OnErr, IsOk};
 ghost use Rattle.std.specs.List.{insert, remove};
-ghost use Rattle.t1_parts.specs.Items.{items_in, raised_stretch, stretch_items, AreSingle};
-ghost use Rattle.t1_parts.specs.Items.{StandsAloneAt, IsPlace};
+ghost use Rattle.t1_parts.specs.Items.{items_in, stretch_items};
+ghost use Rattle.t1_parts.specs.Stretches.{raised_stretch, AreSingle, StandsAloneAt, IsPlaceOfItem};
 
 use crate::item::Item;
 use crate::stretch::Stretch;
@@ -29,7 +29,7 @@ pub(crate) fn copied_stretches<'a>(
 /// stretches before it are counted through.
 fn counted_place(stretches: &[Stretch], at: usize) -> (usize, usize)
     requires { at ≤ length (items_in stretches.now) }
-    ensures { IsPlace at stretches.now result }
+    ensures { IsPlaceOfItem at stretches.now result }
 {
     let mut index = 0;
     let mut left = at;
@@ -49,7 +49,7 @@ fn counted_place(stretches: &[Stretch], at: usize) -> (usize, usize)
 pub(crate) fn place_of(stretches: &[Stretch], at: usize, are_single: bool) -> (usize, usize)
     requires within { at ≤ length (items_in stretches.now) }
     requires single { are_single ≡ true → AreSingle stretches.now }
-    ensures { IsPlace at stretches.now result }
+    ensures { IsPlaceOfItem at stretches.now result }
 {
     if are_single {
         return (at, 0);

@@ -11,7 +11,7 @@ use Rattle.t1_frac.specs.declared.fault.Refusal.TheVariants as refusals
 use Rattle.t1_code.specs.declared.command.Command.{Command}
 use Rattle.t1_chain.specs.Failing.{Failure, failure_in}
 use Rattle.t1_run.specs.declared.outline.Composite.{Composite}
-use Rattle.t1_run.specs.Machine.{GivesOwn}
+use Rattle.t1_run.specs.OwnRuns.{GivesOwn}
 use Rattle.t1_run.specs.Run.{FontBodies, Drawing, NumberedRun, font, own, own_of}
 use Rattle.t1_run.specs.Run as keys
 use Rattle.t1_font.specs.KeptBodies.{SameBodies}

@@ -12,7 +12,8 @@ use Rattle.std.proofs.lemmas.List.{map-append, take_more}
 use Rattle.std.proofs.lemmas.List.Folds.{list_any_more}
 use Rattle.t1_frac.specs.declared.fault.Code.{Code}
 use Rattle.t1_code.specs.declared.command.Command.{Command}
-use Rattle.t1_run.specs.Run.{FontBodies, Key, Subr, Glyph, body_at}
+use Rattle.t1_run.specs.Run.{FontBodies, Key, Subr, Glyph}
+use Rattle.t1_run.specs.RunKeys.{body_at}
 use Rattle.t1_extent.specs.Kept.{TracedRun}
 use Rattle.t1_run.specs.Touched.{is_user}
 use Rattle.t1_font.specs.declared.glyph_metrics.GlyphMetrics.{GlyphMetrics}
@@ -27,7 +28,7 @@ use Rattle.t1_cache.specs.Renewed.{kept}
 use Rattle.t1_cache.specs.Recorded.{kept_of}
 use Rattle.t1_cache.specs.Room.{MayJoin}
 use Rattle.t1_cache.specs.Tables.{AreTables}
-use Rattle.t1_cache.specs.Users.{has_name, has_pair, lists, rest_of, users_at, pairs_of_key, HasUserRoom, Pairs}
+use Rattle.t1_cache.specs.Users.{is_name_among, has_pair, lists, rest_of, users_at, pairs_of_key, HasUserRoom, Pairs}
 use Rattle.t1_cache.proofs.Changing.{rest_same}
 use Rattle.t1_cache.proofs.Joining.{tables_first}
 use Rattle.t1_cache.proofs.Names.{bytes_equiv}
@@ -275,18 +276,18 @@ all-built was bodies left_bodies runs left_runs ms at now have all built =
 
 module _ (m : FontBodies) (names : List (Bor (List ℕ))) (runs : List KeptRun) (metrics : List GlyphMetrics) (are : AreMeasured m runs metrics)
     (named : map (λ name. name.now) names ≡ measured_names metrics) (joins : Pairs)
-    (joined : (k : Key) (u : List ℕ) → has_pair joins k u ≡ (has_name (λ name. name.now) names u && is_user k (run_of runs u))) where
-  are-joins : AreLeaves m (has_name (λ name. name.now) names) joins
-  are-joins k u = joined k u ∙ ap (λ r. has_name (λ name. name.now) names u && is_user k r) (are.draw u)
+    (joined : (k : Key) (u : List ℕ) → has_pair joins k u ≡ (is_name_among (λ name. name.now) names u && is_user k (run_of runs u))) where
+  are-joins : AreLeaves m (is_name_among (λ name. name.now) names) joins
+  are-joins k u = joined k u ∙ ap (λ r. is_name_among (λ name. name.now) names u && is_user k r) (are.draw u)
 
-  is-named : (g : List ℕ) (body : Body) → m.glyphs g ≡ Some body → has_name (λ name. name.now) names g ≡ true
+  is-named : (g : List ℕ) (body : Body) → m.glyphs g ≡ Some body → is_name_among (λ name. name.now) names g ≡ true
   is-named g body e = has-names names g ∙ ap (list_any (bytes_eq g)) named ∙ sym (are.bodies g) ∙ ap is_some e
 
   pub room-there : (records roomy : Records) → SameBodies (record_bodies records) m → rest_of roomy ≡ rest_of records
       → ((k : Key) → MayJoin (pairs_of_key joins k) (users_at roomy k)) → (k : Key) → HasUserRoom (pairs_of_key joins k) (users_at roomy k)
   room-there records roomy compiled rest may =
-      room_for_joins m (has_name (λ name. name.now) names) joins are-joins roomy (same-twice (record_bodies roomy) (record_bodies records) m (rest_same records roomy rest).0 compiled) may
+      room_for_joins m (is_name_among (λ name. name.now) names) joins are-joins roomy (same-twice (record_bodies roomy) (record_bodies records) m (rest_same records roomy rest).0 compiled) may
 
   pub tables-built : (old new : Records) (leaves : Pairs) → ((k : Key) (u : List ℕ) → lists old k u ≡ false)
       → ((k : Key) (u : List ℕ) → lists new k u ≡ ((lists old k u && not (has_pair leaves k u)) || has_pair joins k u)) → AreTables m new
-  tables-built old new leaves empty after = tables_first m (has_name (λ name. name.now) names) is-named old new leaves joins empty are-joins after
+  tables-built old new leaves empty after = tables_first m (is_name_among (λ name. name.now) names) is-named old new leaves joins empty are-joins after

@@ -9,7 +9,8 @@ use Rattle.std.proofs.lemmas.Bool.{or_parts, or_right, true_from_ne_false}
 use Rattle.t1_code.specs.declared.command.Command.{Command}
 use Rattle.t1_parts.specs.SourceParts.{SourceParts}
 use Rattle.t1_run.specs.Footprint.{Includes}
-use Rattle.t1_run.specs.Run.{FontBodies, Key, Glyph, own, body_at, key_eq}
+use Rattle.t1_run.specs.Run.{FontBodies, Key, Glyph, own}
+use Rattle.t1_run.specs.RunKeys.{body_at, key_eq}
 use Rattle.t1_extent.specs.Kept.{TracedRun}
 use Rattle.t1_run.specs.Touched.{is_key_of, is_met, is_named, is_touched, is_user}
 use Rattle.t1_afm.specs.declared.bbox.BBox.{BBox}

@@ -6,13 +6,14 @@ use Rattle.std.specs.Str.{bytes_eq}
 use Rattle.std.proofs.Math.Bool.{and-true, and_self}
 use Rattle.std.proofs.lemmas.Bool.{or_right}
 use Rattle.std.proofs.lemmas.List.Elements.{filter-append}
-use Rattle.t1_run.specs.Run.{Key, Subr, Glyph, body_at, key_eq}
+use Rattle.t1_run.specs.Run.{Key, Subr, Glyph}
+use Rattle.t1_run.specs.RunKeys.{body_at, key_eq}
 use Rattle.t1_run.specs.Touched.{is_key_of}
 use Rattle.t1_cache.specs.declared.records.Records.{Records}
 use Rattle.t1_cache.specs.Bodies.{record_bodies}
 use Rattle.t1_cache.specs.Renewed.{kept}
 use Rattle.t1_cache.specs.Recorded.{Kept, kept_of}
-use Rattle.t1_cache.specs.Users.{has_name, is_key_among, users_at}
+use Rattle.t1_cache.specs.Users.{is_name_among, is_key_among, users_at}
 use Rattle.t1_cache.specs.EditKeys.{key_of}
 use Rattle.t1_cache.proofs.Filtering.{filter-all, filter-both, filter-same}
 use Rattle.t1_font.proofs.Lookups.{bytes_tell, bytes-turned}
@@ -159,7 +160,7 @@ none-left false b h = refl
 pub taken-first : (steps : List Step) (names : List (Vec ℕ Global)) → AreTakenOut names steps → (old new : Records)
     → ((k : Key) → body_at (record_bodies new) k ≡ cond (is_key_among names k) None (body_at (record_bodies old) k))
     → ((k : Key) → users_at new k ≡ cond (is_key_among names k) None (users_at old k))
-    → map kept_of new.glyphs.entries ≡ filter (λ k. not (has_name (λ name. name.items) names k.name)) (map kept_of old.glyphs.entries)
+    → map kept_of new.glyphs.entries ≡ filter (λ k. not (is_name_among (λ name. name.items) names k.name)) (map kept_of old.glyphs.entries)
     → after_all steps (seen new) ≡ after_all steps (seen old)
 taken-first steps names taken old new bodies users kepts =
     all-alike (after_all steps (seen old)) (after_all steps (seen new))
@@ -168,7 +169,7 @@ taken-first steps names taken old new bodies users kepts =
     (record { bodies = λ k off. bodies k ∙ ap (λ b. cond b None (body_at (record_bodies old) k)) (as-key k ∙ off); users = λ k off. users k ∙ ap (λ b. cond b None (users_at old k)) (as-key k ∙ off); kept = once })))
   where
     p : List ℕ → Bool
-    p g = has_name (λ name. name.items) names g
+    p g = is_name_among (λ name. name.items) names g
 
     as-key : (k : Key) → is_key_among names k ≡ of-key p k
     as-key (Subr n) = refl
@@ -191,10 +192,10 @@ taken-at (s ∷ steps) (suc at) step g far is on = or_right (takes_out s g) (som
 
 -- one name more
 pub taken-more : (steps : List Step) (names new : List (Vec ℕ Global)) (key : Vec ℕ Global) (at : ℕ) (step : Step) → AreTakenOut names steps
-    → ((g : List ℕ) → has_name (λ name. name.items) new g ≡ (has_name (λ name. name.items) names g || bytes_eq g key.items))
+    → ((g : List ℕ) → is_name_among (λ name. name.items) new g ≡ (is_name_among (λ name. name.items) names g || bytes_eq g key.items))
     → at < length steps → step ≡ get_or steps at step → takes_out step key.items ≡ true → AreTakenOut new steps
-taken-more steps names new key at step taken more far is on = λ g h. by g (has_name (λ name. name.items) names g) refl (bytes_eq g key.items) refl (sym (more g) ∙ h) where
-  by : (g : List ℕ) (a : Bool) → has_name (λ name. name.items) names g ≡ a → (b : Bool) → bytes_eq g key.items ≡ b → (a || b) ≡ true → list_any (λ s. takes_out s g) steps ≡ true
+taken-more steps names new key at step taken more far is on = λ g h. by g (is_name_among (λ name. name.items) names g) refl (bytes_eq g key.items) refl (sym (more g) ∙ h) where
+  by : (g : List ℕ) (a : Bool) → is_name_among (λ name. name.items) names g ≡ a → (b : Bool) → bytes_eq g key.items ≡ b → (a || b) ≡ true → list_any (λ s. takes_out s g) steps ≡ true
   by g true old b e h = taken g old
   by g false old true e h = taken-at steps at step g far is (ap (takes_out step) (bytes_tell.same g key.items e) ∙ on)
   by g false old false e h = absurd (cc)

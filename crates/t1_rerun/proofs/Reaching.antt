@@ -26,7 +26,7 @@ use Rattle.t1_cache.specs.Edited.{stale}
 use Rattle.t1_cache.specs.Renewal.{kept_by}
 use Rattle.t1_cache.specs.Recorded.{IsFromScratch}
 use Rattle.t1_cache.specs.Renewed.{recorded_run}
-use Rattle.t1_cache.specs.Users.{has_name, has_pair}
+use Rattle.t1_cache.specs.Users.{is_name_among, has_pair}
 use Rattle.t1_cache.specs.EditKeys.{key_of}
 use Rattle.t1_rerun.specs.declared.renewal.Renewal.{Renewal}
 use Rattle.t1_rerun.specs.Newest.{newest_among}
@@ -70,7 +70,7 @@ length-map f (x ∷ xs) = ap suc_of (length-map f xs) where
   suc_of : ℕ → ℕ
   suc_of n = Rattle.std.specs.Prelude.suc n
 
-pub has-names : (names : List (Bor (List ℕ))) (g : List ℕ) → has_name (λ name. name.now) names g ≡ list_any (bytes_eq g) (map (λ name. name.now) names)
+pub has-names : (names : List (Bor (List ℕ))) (g : List ℕ) → is_name_among (λ name. name.now) names g ≡ list_any (bytes_eq g) (map (λ name. name.now) names)
 has-names [] g = refl
 has-names (x ∷ names) g = ap (λ b. bytes_eq g x.now || b) (has-names names g)
 

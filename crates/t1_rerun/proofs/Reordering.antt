@@ -38,7 +38,7 @@ use Rattle.t1_cache.specs.declared.records.Rerun.{Rerun}
 use Rattle.t1_cache.specs.Edited.{stale}
 use Rattle.t1_cache.specs.Laws.{AreDistinct}
 use Rattle.t1_cache.specs.Renewed.{recorded_run}
-use Rattle.t1_cache.specs.Users.{has_name, has_pair}
+use Rattle.t1_cache.specs.Users.{is_name_among, has_pair}
 use Rattle.t1_cache.specs.EditKeys.{key_of}
 use Rattle.t1_cache.proofs.Counting.{found_count}
 use Rattle.t1_cache.proofs.Lists.{all-weaken, all-at}
@@ -87,7 +87,7 @@ bodies-there f (x ∷ xs) = one (f x) refl (bodies-there f xs) where
 
 -- names that were found, of which those that have a body are left
 module _ (f : List ℕ → Option (List Command)) (keys : List (Bor (List ℕ))) (these : List (List ℕ)) (is : these ≡ filter (λ g. is_some (f g)) (map (λ name. name.now) keys)) where
-  pub those-are : (g : List ℕ) → list_any (bytes_eq g) these ≡ (has_name (λ name. name.now) keys g && is_some (f g))
+  pub those-are : (g : List ℕ) → list_any (bytes_eq g) these ≡ (is_name_among (λ name. name.now) keys g && is_some (f g))
   those-are g =
       ap (list_any (bytes_eq g)) is ∙ has-passing (λ g. is_some (f g)) g (map (λ name. name.now) keys) ∙ ap (λ b. b && is_some (f g)) (sym (has-names keys g))
 

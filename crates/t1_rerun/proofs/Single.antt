@@ -9,7 +9,8 @@ use Rattle.std.proofs.lemmas.List.{append-nil}
 use Rattle.t1_code.specs.declared.command.Command.{Command}
 use Rattle.t1_parts.specs.SourceParts.{SourceParts}
 use Rattle.t1_run.specs.Footprint.{Includes}
-use Rattle.t1_run.specs.Run.{Glyph, body_at}
+use Rattle.t1_run.specs.Run.{Glyph}
+use Rattle.t1_run.specs.RunKeys.{body_at}
 use Rattle.t1_run.specs.Touched.{is_key_of}
 use Rattle.t1_font.specs.Bodies.{bodies}
 use Rattle.t1_font.specs.Glyphs.{glyph_names}

@@ -11,7 +11,8 @@ use Rattle.std.proofs.lemmas.List.Folds.{list_any-append}
 use Rattle.std.proofs.lemmas.List.Elements.{filter-append}
 use Rattle.t1_code.specs.declared.command.Command.{Command}
 use Rattle.t1_parts.specs.SourceParts.{SourceParts}
-use Rattle.t1_run.specs.Run.{Key, Subr, Glyph, body_at, key_eq}
+use Rattle.t1_run.specs.Run.{Key, Subr, Glyph}
+use Rattle.t1_run.specs.RunKeys.{body_at, key_eq}
 use Rattle.t1_extent.specs.Kept.{TracedRun}
 use Rattle.t1_run.specs.Touched.{is_key_of}
 use Rattle.t1_afm.specs.declared.bbox.BBox.{BBox}
@@ -22,7 +23,7 @@ use Rattle.t1_cache.specs.Bodies.{record_bodies}
 use Rattle.t1_cache.specs.Renewed.{kept}
 use Rattle.t1_cache.specs.Recorded.{Kept}
 use Rattle.t1_cache.specs.Room.{MayJoin}
-use Rattle.t1_cache.specs.Users.{among, has_name, users_of, UserSet}
+use Rattle.t1_cache.specs.Users.{among, is_name_among, users_of, UserSet}
 use Rattle.t1_cache.specs.EditKeys.{key_of}
 use Rattle.t1_font.proofs.Keys.{key-same, glyph-key}
 use Rattle.t1_cache.proofs.Lists.{all-weaken, all-last}
@@ -135,11 +136,11 @@ module _ (run : List ℕ → Option (TracedRun × Option BBox)) (count : Key →
   pub bodies-stepped : (b : Key → Option (List Command)) (cs : List EntryChange) (ss : List Step) → Are cs ss → AreDistinctKeys (changed_keys cs)
       → AllByRecursion IsServed cs → AllByRecursion (λ c. b (key_of c.named) ≡ c.body) cs → (x : Seen) (k : Key) → x.bodies k ≡ body_at (record_bodies records) k
       → (list_any (key_eq k) (changed_keys cs) ≡ false → body_at (record_bodies records) k ≡ b k) → (after_all ss x).bodies k ≡ b k
-  bodies-stepped b [] ss h d served has_name x k was other = ap (λ l. (after_all l x).bodies k) h ∙ was ∙ other refl
-  bodies-stepped b (c ∷ cs) ss h d served has_name x k was other =
+  bodies-stepped b [] ss h d served is_name_among x k was other = ap (λ l. (after_all l x).bodies k) h ∙ was ∙ other refl
+  bodies-stepped b (c ∷ cs) ss h d served is_name_among x k was other =
       ap (λ l. (after_all l x).bodies k) h.1.1.0 ∙ ap (λ y. y.bodies k) (after-last h.0 h.1.0 x)
       ∙ by (key_eq k (key_of c.named)) refl
-      (λ e. bodies-stepped b cs h.0 h.1.1.1.1 d.1 served.1 has_name.1 (seen_after h.1.0 x) k (at-step false e ∙ was)
+      (λ e. bodies-stepped b cs h.0 h.1.1.1.1 d.1 served.1 is_name_among.1 (seen_after h.1.0 x) k (at-step false e ∙ was)
       (λ off. other (ap (λ t. t || list_any (key_eq k) (changed_keys cs)) e ∙ off)))
     where
       at-step : (on : Bool) → key_eq k (key_of c.named) ≡ on → (seen_after h.1.0 x).bodies k ≡ cond on (step_body h.1.0 (x.bodies k)) (x.bodies k)
@@ -152,7 +153,7 @@ module _ (run : List ℕ → Option (TracedRun × Option BBox)) (count : Key →
           apart-bodies cs h.0 h.1.1.1.1 (seen_after h.1.0 x) k (ap (λ j. list_any (key_eq j) (changed_keys cs)) is ∙ d.0)
           ∙ at-step true e
           ∙ body-step c h.1.0 h.1.1.1.0 served.0 (x.bodies k) (was ∙ ap (body_at (record_bodies records)) is)
-          ∙ sym has_name.0 ∙ ap b (sym is)
+          ∙ sym is_name_among.0 ∙ ap b (sym is)
       by false e rest = rest e
 
   -- ---- users
@@ -182,8 +183,8 @@ module _ (run : List ℕ → Option (TracedRun × Option BBox)) (count : Key →
   users-step c s h k was false e = inl refl
   users-step c (steps.Remove named) h k was true e = inr (λ u. refl)
   users-step c (steps.Put named body) h k was true e = inl refl
-  users-step c (steps.InsertSubr n r) h k was true e = inr (λ u. ap (λ l. has_name (λ name. name.items) l u) h.1.1.0)
-  users-step c (steps.InsertGlyph name r) h k was true e = inr (λ u. ap (λ l. has_name (λ name. name.items) l u) h.1.1.1.0.0)
+  users-step c (steps.InsertSubr n r) h k was true e = inr (λ u. ap (λ l. is_name_among (λ name. name.items) l u) h.1.1.0)
+  users-step c (steps.InsertGlyph name r) h k was true e = inr (λ u. ap (λ l. is_name_among (λ name. name.items) l u) h.1.1.1.0.0)
 
   pub users-stepped : (cs : List EntryChange) (ss : List Step) → Are cs ss → (x : Seen) (k : Key) → StayOrGo cs k (x.users k) ((after_all ss x).users k)
   users-stepped [] ss h x k = inl (ap (λ l. (after_all l x).users k) h)
@@ -320,9 +321,9 @@ module _ (run : List ℕ → Option (TracedRun × Option BBox)) (count : Key →
     pub leaves-as : (new : SourceParts) (n : Key → Option (List Command)) → ((g : List ℕ) → has_glyph new g ≡ is_some (n (Glyph g)))
         → (cs : List EntryChange) → AllByRecursion (λ c. n (key_of c.named) ≡ c.body) cs → (g : List ℕ) → has_glyph old g ≡ true
         → leaves cs g ≡ ((list_any (is_key_of g) (changed_keys cs) && not (has_glyph new g)) || was_moved cs g)
-    leaves-as new n has_name [] bodies g was = refl
-    leaves-as new n has_name (c ∷ cs) bodies g was =
-        ap (λ b. leaves_at c g || b) (leaves-as new n has_name cs bodies.1 g was)
+    leaves-as new n is_name_among [] bodies g was = refl
+    leaves-as new n is_name_among (c ∷ cs) bodies g was =
+        ap (λ b. leaves_at c g || b) (leaves-as new n is_name_among cs bodies.1 g was)
         ∙ ap (λ b. b || ((list_any (is_key_of g) (changed_keys cs) && not (has_glyph new g)) || was_moved cs g)) (one c.named refl (is_key_of g (key_of c.named)) refl)
         ∙ mix (is_key_of g (key_of c.named)) (not (has_glyph new g)) c.moved (list_any (is_key_of g) (changed_keys cs)) (was_moved cs g)
       where
@@ -347,7 +348,7 @@ module _ (run : List ℕ → Option (TracedRun × Option BBox)) (count : Key →
         one (named.Glyph h) is true e =
             let same : g ≡ h = bytes_tell.same g h (ap (λ d. is_key_of g (key_of d)) (sym is) ∙ e) in
             ap (λ t. is_key_of g (key_of c.named) && (t || is_last records c.moved c.named))
-            (ap is_none (sym bodies.0 ∙ ap (λ d. n (key_of d)) is ∙ ap (λ x. n (Glyph x)) (sym same)) ∙ none-some (n (Glyph g)) ∙ ap not (sym (has_name g)))
+            (ap is_none (sym bodies.0 ∙ ap (λ d. n (key_of d)) is ∙ ap (λ x. n (Glyph x)) (sym same)) ∙ none-some (n (Glyph g)) ∙ ap not (sym (is_name_among g)))
             ∙ ap (λ t. is_key_of g (key_of c.named) && (not (has_glyph new g) || t))
             (ap (is_last records c.moved) is ∙ ap (λ t. c.moved || t) (there h ∙ ap (λ x. not (has_glyph old x)) (sym same) ∙ ap not was) ∙ or-false c.moved)
 

@@ -8,7 +8,8 @@ use Rattle.std.specs.Str.{bytes_eq}
 use Rattle.t1_code.specs.declared.command.Command.{Command}
 use Rattle.t1_parts.specs.SourceParts.{SourceParts}
 use Rattle.t1_run.specs.Overlay.{after_change}
-use Rattle.t1_run.specs.Run.{FontBodies, Key, font, key_eq}
+use Rattle.t1_run.specs.Run.{FontBodies, Key, font}
+use Rattle.t1_run.specs.RunKeys.{key_eq}
 use Rattle.t1_font.specs.Assembly.{file_check}
 use Rattle.t1_font.specs.Glyphs.{glyph_names}
 use Rattle.t1_cache.specs.declared.records.Records.{Records}

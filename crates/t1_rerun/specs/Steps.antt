@@ -7,7 +7,8 @@ use Rattle.std.specs.declared.alloc.Global.{Global}
 use Rattle.std.specs.declared.vec.Vec.{Vec}
 use Rattle.indexmap.specs.IndexSet.{IndexSet, spare}
 use Rattle.t1_code.specs.declared.command.Command.{Command}
-use Rattle.t1_run.specs.Run.{Key, Subr, Glyph, body_at, key_eq}
+use Rattle.t1_run.specs.Run.{Key, Subr, Glyph}
+use Rattle.t1_run.specs.RunKeys.{body_at, key_eq}
 use Rattle.t1_extent.specs.Kept.{TracedRun}
 use Rattle.t1_run.specs.Touched.{is_key_of}
 use Rattle.t1_afm.specs.declared.bbox.BBox.{BBox}
@@ -19,7 +20,7 @@ use Rattle.t1_cache.specs.declared.records.Rerun.{Rerun}
 use Rattle.t1_cache.specs.Bodies.{record_bodies}
 use Rattle.t1_cache.specs.Renewed.{kept, rerun_of}
 use Rattle.t1_cache.specs.Recorded.{Kept, kept_of}
-use Rattle.t1_cache.specs.Users.{has_name, users_at, users_of, UserSet}
+use Rattle.t1_cache.specs.Users.{is_name_among, users_at, users_of, UserSet}
 use Rattle.t1_cache.specs.EditKeys.{key_of}
 use Rattle.t1_rerun.specs.declared.entry_change.EntryChange.{EntryChange}
 use Rattle.t1_rerun.specs.declared.settling.steps.Step.{Step}
@@ -88,7 +89,7 @@ takes_out _ g = false
 
 -- word: steps take out the records of these glyphs
 abbrev pub AreTakenOut : List (Vec ℕ Global) → List Step → Type 0
-AreTakenOut names steps = (g : List ℕ) → has_name (λ name. name.items) names g ≡ true → list_any (λ step. takes_out step g) steps ≡ true
+AreTakenOut names steps = (g : List ℕ) → is_name_among (λ name. name.items) names g ≡ true → list_any (λ step. takes_out step g) steps ≡ true
 
 -- ---- the steps of changes
 

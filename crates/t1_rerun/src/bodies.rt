@@ -4,7 +4,8 @@ ghost use Rattle.std.specs.Prelude.{if◌then◌else◌};
 ghost use Rattle.std.specs.Option.{option_copied, option_or};
 ghost use Rattle.std.specs.Str.{bytes_eq};
 ghost use Rattle.t1_run.specs.Overlay.{after_change};
-ghost use Rattle.t1_run.specs.Run.{Glyph, Key, Subr, body_at};
+ghost use Rattle.t1_run.specs.Run.{Glyph, Key, Subr};
+ghost use Rattle.t1_run.specs.RunKeys.{body_at};
 ghost use Rattle.t1_cache.specs.Bodies.{record_bodies};
 ghost use Rattle.t1_rerun.specs.Changing.{body_changed, edited_font, glyph_set, subr_set};
 

@@ -13,7 +13,7 @@ ghost use Rattle.t1_cache.specs.Edited.{stale};
 ghost use Rattle.t1_cache.specs.Kept.{keep_traces};
 ghost use Rattle.t1_cache.specs.Laws.{fault_check, AreDistinct};
 ghost use Rattle.t1_cache.specs.Tables.{AreTables};
-ghost use Rattle.t1_cache.specs.Users.{has_name};
+ghost use Rattle.t1_cache.specs.Users.{is_name_among};
 ghost use Rattle.t1_cache.specs.EditKeys.{key_of};
 ghost use Rattle.t1_rerun.specs.Newest.{judged_in, newest, newest_among, FirstIn};
 ghost use Rattle.t1_rerun.specs.Renewals.{IsLater, IsRenewal};
@@ -40,7 +40,7 @@ fn check_in_order<O: GlyphOrder>(
     ensures { Gives (λ x. x) result
         (fault_check
         (glyph_metrics_among (newest runs.now.runs.now runs.now.records.now)
-        (filter (has_name (λ name. name.now) found.now.keys) (O.ordered order.now)))) }
+        (filter (is_name_among (λ name. name.now) found.now.keys) (O.ordered order.now)))) }
 {
     let names = order.names(alloc)?;
     let stale = stale_among(alloc, &names, found)?;
@@ -59,7 +59,7 @@ fn first_in_order<O: GlyphOrder>(
 ) -> Refusal
     ensures { FirstIn refusal
         (glyph_metrics_among (newest runs.now.runs.now runs.now.records.now)
-        (filter (has_name (λ name. name.now) found.now.keys) (O.ordered order.now)))
+        (filter (is_name_among (λ name. name.now) found.now.keys) (O.ordered order.now)))
         result }
 {
     match refusal {
@@ -85,7 +85,7 @@ fn measured_in_turn<'a, O: GlyphOrder>(
         (glyph_metrics_among (newest runs.now.runs.now runs.now.records.now)
         (map (λ name. name.now) stale.now))
         (glyph_metrics_among (newest runs.now.runs.now runs.now.records.now)
-        (filter (has_name (λ name. name.now) found.now.keys) (O.ordered order.now)))) }
+        (filter (is_name_among (λ name. name.now) found.now.keys) (O.ordered order.now)))) }
 {
     match glyph_metrics_of(alloc, runs, stale) {
         Ok(metrics) => Ok(metrics),
@@ -115,7 +115,7 @@ fn judged<'a, B: StoredBodies, O: GlyphOrder>(
         (glyph_metrics_among
         (newest_among (font (B.subrs bodies.now) (B.glyphs bodies.now))
         (map (λ name. name.now) stale.now) records.now)
-        (filter (has_name (λ name. name.now) found.now.keys) (O.ordered order.now)))) }
+        (filter (is_name_among (λ name. name.now) found.now.keys) (O.ordered order.now)))) }
     ensures kept { IfOk result
         (λ made.
         (g : List ℕ)
@@ -151,7 +151,7 @@ fn rerun_found<B: StoredBodies, O: GlyphOrder>(
     requires once { AreDistinct (map (λ name. name.now) found.now.keys) }
     requires stale { (m : FontBodies)
         → AreTables m records.now
-        → AreStale m (map key_of edits.now) (has_name (λ name. name.now) found.now.keys) }
+        → AreStale m (map key_of edits.now) (is_name_among (λ name. name.now) found.now.keys) }
     ensures checked { (old new : SourceParts)
         → IsEdit edits.now old new records.now (font (B.subrs bodies.now) (B.glyphs bodies.now))
         (O.ordered order.now)

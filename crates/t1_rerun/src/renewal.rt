@@ -6,7 +6,7 @@ ghost use Rattle.t1_run.specs.Run.{Key};
 ghost use Rattle.t1_run.specs.Touched.{is_user};
 ghost use Rattle.t1_font.specs.Runs.{drawing_in};
 ghost use Rattle.t1_cache.specs.Renewed.{recorded_run};
-ghost use Rattle.t1_cache.specs.Users.{has_name, has_pair};
+ghost use Rattle.t1_cache.specs.Users.{is_name_among, has_pair};
 ghost use Rattle.t1_rerun.specs.Renewals.{rerun_names, HasRun, IsMeasuredRerun};
 
 use crate::reruns::reruns_of;
@@ -47,13 +47,13 @@ pub fn renewal_of(
         (λ renewal.
         (k : Key) (u : List ℕ)
         → has_pair renewal.leaves.items k u
-        ≡ (has_name (λ name. name.now) found.now u && is_user k
+        ≡ (is_name_among (λ name. name.now) found.now u && is_user k
         (recorded_run records.now u))) }
     ensures joins { IfOk result
         (λ renewal.
         (k : Key) (u : List ℕ)
         → has_pair renewal.joins.items k u
-        ≡ (has_name (λ name. name.now) stale.now u && is_user k
+        ≡ (is_name_among (λ name. name.now) stale.now u && is_user k
         (drawing_in runs.old u))) }
 {
     let leaves = leaves_of(alloc, records, found)?;

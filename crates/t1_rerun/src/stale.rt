@@ -1,6 +1,6 @@
 //! The stale glyphs of an edited font, in its order.
 ghost use Rattle.std.specs.Prelude.{◌≡◌, IfOk, filter, is_some, map};
-ghost use Rattle.t1_cache.specs.Users.{has_name};
+ghost use Rattle.t1_cache.specs.Users.{is_name_among};
 
 use indexmap::IndexSet;
 use std::alloc::{AllocError, Global};
@@ -15,7 +15,7 @@ pub fn stale_among<'a>(
     ensures { IfOk result
         (λ stale.
         map (λ name. name.now) stale.items
-        ≡ filter (has_name (λ name. name.now) found.now.keys)
+        ≡ filter (is_name_among (λ name. name.now) found.now.keys)
         (map (λ name. name.now) names.now)) }
 {
     let mut stale = Vec::new(alloc);

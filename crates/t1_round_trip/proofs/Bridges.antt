@@ -25,7 +25,7 @@ use Rattle.t1_parts.specs.Printing.{text}
 use Rattle.t1_parts.specs.SourceParts.{SourceParts}
 use Rattle.t1_font.specs.Assembly.{entry_line, item_line, private_text, trailer_text, source_file, source_pfa}
 use Rattle.t1_disassemble.specs.Disassembly.{disassembled}
-use Rattle.t1_disassemble.specs.Laws.{plain_item, item_text, items_text, raw, AreBytes}
+use Rattle.t1_disassemble.specs.Laws.{plain_item, item_text, items_text, raw_file, AreBytes}
 use Rattle.t1_disassemble.proofs.DigitFileLaws.{digits_again}
 use Rattle.t1_disassemble.proofs.FlatFileLaws.{raw_again as bare_again, text_again}
 use Rattle.t1_disassemble.proofs.WholeLaws.{file_again}
@@ -146,7 +146,7 @@ raw_again source file r mark h =
     let trailer = trailer_text source.tail in
     let m = made_from raw_of source file (private_text (lead source) (operator source) source.items) refl h in
     let c = cut_private (lead source) (operator source) r.before r.last m.private (ap (private_text (lead source) (operator source)) (sym r.whole) ∙ m.said) in
-    let is : raw (joined source.clear) m.private trailer ≡ file = unmade false (raw (joined source.clear) m.private trailer) file m.is in
-    ap disassembled (sym is ∙ ap (λ p. raw (joined source.clear) p trailer) c.whole)
+    let is : raw_file (joined source.clear) m.private trailer ≡ file = unmade false (raw_file (joined source.clear) m.private trailer) file m.is in
+    ap disassembled (sym is ∙ ap (λ p. raw_file (joined source.clear) p trailer) c.whole)
     ∙ bare_again source.clear (operator source) (lead source) r.before r.last c.bytes trailer r.reads c.made mark
     ∙ ap (λ (t : List ℕ). Ok t) (text_again source.clear (map plain_item r.before) r.last (tail_of (lines trailer)) ∙ text_of source r)

@@ -13,7 +13,7 @@ use Rattle.t1_parts.specs.Reading.{reads}
 use Rattle.t1_parts.specs.SourceParts.{SourceParts}
 use Rattle.t1_font.specs.Assembly.{private_text, file_in}
 use Rattle.t1_disassemble.specs.Disassembly.{disassembled}
-use Rattle.t1_disassemble.specs.Laws.{plain_item, raw, AreBytes, IsReadBack}
+use Rattle.t1_disassemble.specs.Laws.{plain_item, raw_file, AreBytes, IsReadBack}
 
 -- profile: a source as it comes back: each number word in its one plain spelling
 abbrev pub plain_source : SourceParts → SourceParts
@@ -34,7 +34,7 @@ HasBytes source = (private : List ℕ) → private_text (lead source) (operator 
 
 -- profile: the file of the three parts without segments, its encrypted part in binary, which the program doesn't write
 abbrev pub raw_of : List ℕ → List ℕ → List ℕ → Result (List ℕ) Fault
-raw_of clear private trailer = Ok (raw clear private trailer)
+raw_of clear private trailer = Ok (raw_file clear private trailer)
 
 -- Type 1 Font Format, 7.2 (eexec): the file of a source without segments, or the first fault of its bodies
 unfoldable pub source_raw : SourceParts → Result (List ℕ) Fault

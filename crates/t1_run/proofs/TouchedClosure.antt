@@ -14,7 +14,8 @@ use Rattle.t1_run.specs.declared.outline.Segment.{Segment}
 use Rattle.t1_run.specs.Composite.{drawn, joined_outline, outline, outline_within, with_parts}
 use Rattle.t1_run.specs.Footprint.{is_part, uses}
 use Rattle.t1_run.specs.Run.{FontBodies, Key, Subr, Glyph, Drawing, own, own_of}
-use Rattle.t1_run.specs.Touched.{is_key_of, is_met, is_named, is_touched, is_user, meets_part, meets_parts, meets_run, touched_within, AreStale, IsClosed, Found, Seed, User, TouchedAreStaleLaw}
+use Rattle.t1_run.specs.Touched.{is_key_of, is_met, is_named, is_touched, is_user, meets_part, meets_parts, meets_run, touched_within, AreStale, IsClosed, Found, Seed, User}
+use Rattle.t1_run.specs.TouchedLaw.{TouchedAreStaleLaw}
 use Rattle.t1_run.proofs.Asked.{bytes_self}
 use Rattle.t1_run.proofs.FoundByUsers.{met-run, user-run}
 

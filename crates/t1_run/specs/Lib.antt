@@ -6,10 +6,13 @@ pub mod Machine
 pub mod Operands
 pub mod OtherSubrs
 pub mod Overlay
+pub mod OwnRuns
 pub mod Pushing
 pub mod Run
+pub mod RunKeys
 pub mod State
 pub mod Step
 pub mod Touched
+pub mod TouchedLaw
 pub mod Within
 pub mod Words

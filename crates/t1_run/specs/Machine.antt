@@ -1,8 +1,9 @@
 -- How the definitions see the runner's state and its answers.
-use Rattle.std.specs.Prelude.{◌≡◌, ℕ, List, [], ◌∷◌, ◌++◌, map, reverse, take, Option, Some, None, Result, Ok, Err}
+use Rattle.std.specs.Prelude.{◌≡◌, ℕ, List, [], ◌∷◌, ◌++◌, map, reverse, take, Option, Result, Ok, Err}
 use Rattle.std.specs.Option.{option_map}
 use Rattle.std.specs.Borrow.{Bor}
-use Rattle.t1_frac.specs.Outcome.{refusal, reported_at, Gives, Refuses}
+use Rattle.t1_frac.specs.Outcome.{reported_at, Refuses}
+use Rattle.t1_frac.specs.Refusals.{refusal}
 use Rattle.t1_frac.specs.declared.fault.Code.{Code}
 use Rattle.t1_frac.specs.declared.fault.Place.TheVariants.{Nowhere}
 use Rattle.t1_frac.specs.declared.fault.Refusal.{Refusal}
@@ -18,7 +19,7 @@ use Rattle.t1_run.specs.declared.state.Control.TheVariants as controls
 use Rattle.t1_run.specs.State.{State}
 use Rattle.t1_run.specs.Step.{Step, Next, Call, Back, End, Compose, Fault}
 use Rattle.t1_run.specs.OtherSubrs.{end_flex, start_flex, add_flex}
-use Rattle.t1_run.specs.Run.{Drawing, NumberedRun, drawing_of}
+use Rattle.t1_run.specs.Run.{Drawing, drawing_of}
 use Rattle.t1_run.specs.declared.othersubrs.Effect.{Effect}
 use Rattle.t1_run.specs.declared.othersubrs.Effect.TheVariants.{EndFlex, StartFlex, RecordPoint, Leave, Discard}
 
@@ -65,11 +66,6 @@ answered step (Err code) s = Fault code
 abbrev pub MakesStep : {A : Type 0} → (A → State → Step) → Step → Result A Halt → StateFields → Type 0
 MakesStep step made (Ok value) now = made ≡ step value (state_of now)
 MakesStep step made (Err halt) now = RefusesStep halt made
-
--- profile: a call answers what the own body of a glyph of the maps draws, or its fault at no place, unless memory ran out
-abbrev pub GivesOwn : Result NumberedRun Refusal → Option (Result Drawing Code) → Type 0
-GivesOwn result None = ⊥
-GivesOwn result (Some outcome) = Gives (λ run. run.drawing) result (reported_at Nowhere outcome)
 
 -- word: a run that ends here draws what its state and its parts say, or is refused by its fault
 abbrev pub Ends : Result Drawing Code → Result (Option Composite) Refusal → StateFields → Type 0

@@ -1,7 +1,6 @@
 -- The run of a glyph's own body.
-use Rattle.std.specs.Prelude.{ℕ, zero, suc, Bool, false, nat_eq, nat_lt, ◌==◌, if◌then◌else◌, List, [], ◌∷◌, Option, Some, None, Result, Ok, Err, ℤ, pos, negsuc}
+use Rattle.std.specs.Prelude.{ℕ, zero, suc, nat_lt, ◌==◌, if◌then◌else◌, List, [], ◌∷◌, Option, Some, None, Result, Ok, Err, ℤ, pos, negsuc}
 use Rattle.std.specs.Option.{ok_or, option_map}
-use Rattle.std.specs.Str.{bytes_eq}
 use Rattle.t1_frac.specs.Outcome.{◌>>=◌}
 use Rattle.t1_frac.specs.declared.fault.Code.{Code}
 use Rattle.t1_frac.specs.declared.fault.Code.TheVariants.{F32, F33, F34, F35, F36, F44, F45}
@@ -29,17 +28,6 @@ font subrs glyphs = record { subrs = subrs; glyphs = glyphs }
 pub data Key : Type 0 where
   Subr : ℕ → Key
   Glyph : List ℕ → Key
-
--- word: whether two keys are the same
-abbrev pub key_eq : Key → Key → Bool
-key_eq (Subr n) (Subr m) = nat_eq n m
-key_eq (Glyph g) (Glyph h) = bytes_eq g h
-key_eq _ _ = false
-
--- word: the body of a font at a key
-abbrev pub body_at : FontBodies → Key → Option (List Command)
-body_at m (Subr n) = m.subrs n
-body_at m (Glyph g) = m.glyphs g
 
 -- profile: how a list of commands stops
 pub data Stop : Type 0 where

@@ -3,7 +3,6 @@ use Rattle.std.specs.Prelude.{◌≡◌, ℕ, zero, suc, Bool, true, false, ◌|
 use Rattle.std.specs.List.{list_any}
 use Rattle.std.specs.Str.{bytes_eq}
 use Rattle.t1_frac.specs.declared.fault.Code.{Code}
-use Rattle.t1_code.specs.declared.command.Command.{Command}
 use Rattle.t1_run.specs.declared.outline.Composite.{Composite}
 use Rattle.t1_run.specs.declared.outline.Segment.{Segment}
 use Rattle.t1_run.specs.Run.{FontBodies, Key, Subr, Glyph, Drawing, own}
@@ -82,12 +81,6 @@ pub data Found (m : FontBodies) (keys : List Key) : List ℕ → Type 0 where
 pub record AreStale (m : FontBodies) (keys : List Key) (names : List ℕ → Bool) : Type 0 where
   pub closed : IsClosed m keys names
   pub found : (g : List ℕ) → names g ≡ true → Found m keys g
-
--- word: of a font whose glyphs all draw, the touched names are the stale ones
-abbrev pub TouchedAreStaleLaw : Type 0
-TouchedAreStaleLaw =
-    (m : FontBodies) (keys : List Key) → ((g : List ℕ) (body : List Command) → m.glyphs g ≡ Some body → (o : List Segment) × (outline m g ≡ Ok o))
-    → AreStale m keys (is_touched m keys)
 
 -- profile: of the glyphs that draw, those that are found by users are those that are touched
 abbrev pub FoundByUsersLaw : Type 0

@@ -2,7 +2,8 @@
 
 ghost use Rattle.t1_run.specs.Footprint.{FootprintLaw, OutlineFootprintLaw, ExactLaw, PartsLaw};
 ghost use Rattle.t1_run.specs.Footprint.{StepsLaw};
-ghost use Rattle.t1_run.specs.Touched.{FoundByUsersLaw, TouchedAreStaleLaw, UntouchedLaw};
+ghost use Rattle.t1_run.specs.Touched.{FoundByUsersLaw, UntouchedLaw};
+ghost use Rattle.t1_run.specs.TouchedLaw.{TouchedAreStaleLaw};
 ghost use Rattle.t1_run.specs.Within.{DrawnWithinLaw, OutlinesWithinLaw};
 
 /// What a glyph's own body draws, or its fault, and its footprint are the same in all fonts that

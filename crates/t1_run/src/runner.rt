@@ -6,7 +6,8 @@ ghost use Rattle.t1_frac.specs.Outcome.{Gives, reported_at};
 ghost use Rattle.t1_code.specs.declared.command.Command.{Command as CommandOf};
 ghost use Rattle.t1_run.specs.Composite.{HasStandardParts};
 ghost use Rattle.t1_run.specs.Continuing.{Comes, Continues};
-ghost use Rattle.t1_run.specs.Machine.{state_of, Ends, GivesOwn};
+ghost use Rattle.t1_run.specs.Machine.{state_of, Ends};
+ghost use Rattle.t1_run.specs.OwnRuns.{GivesOwn};
 ghost use Rattle.t1_run.specs.Run.{FontBodies, body_stop, outcome_of, own, font};
 ghost use Rattle.t1_run.specs.State.{initial};
 

@@ -12,7 +12,7 @@ use Rattle.t1_pairs.specs.declared.pairs.Pair.{Pair}
 use Rattle.t1_source.specs.Editing.{edited}
 use Rattle.t1_source.specs.WellFormed.{is_counted}
 use Rattle.t1_source.specs.declared.editing.change.Change.{Change}
-use Rattle.t1_source.specs.Changes.{changed, Serves}
+use Rattle.t1_source.specs.Changes.{changed, Suits}
 use Rattle.t1_run.specs.Run.{Key}
 use Rattle.t1_font.specs.Assembly.{file_check}
 use Rattle.t1_font.specs.Runs.{Counts}
@@ -35,7 +35,7 @@ renewing_runs edit old new = runs_where (file_check new) (stale old (named edit)
 
 -- an edit of a session's source was prepared
 abbrev pub edit_prepared : (s : SourceParts) (k : List Pair) (held : Held) (edit : Edit) (change : Change) → IsHeld s held
-    → (list_all is_counted s.items ≡ true → reads (text s) ≡ Ok s) → Serves change s k → edited s k edit ≡ Ok (changed change s k)
+    → (list_all is_counted s.items ≡ true → reads (text s) ≡ Ok s) → Suits change s k → edited s k edit ≡ Ok (changed change s k)
     → IsPreparedEdit s k edit change held
 edit_prepared s k held edit change is again serves e =
     record { held = is; well = checked_well s (right_checked s held.records is.right) again; serves = serves; made = e }

@@ -45,7 +45,7 @@ impl<'a> Model for Session<'a> {
 ghost use Rattle.std.specs.Prelude.{◌≡◌, ◌≤◌, ◌-◌, ◌^◌, Ok, IfOk, None, Some, is_some, length, map};
 ghost use Rattle.std.specs.Prelude.{option_map, true};
 ghost use Rattle.t1_frac.specs.Outcome.{Gives};
-ghost use Rattle.t1_source.specs.Changes.{changed, Serves};
+ghost use Rattle.t1_source.specs.Changes.{changed, Suits};
 ghost use Rattle.t1_source.specs.Editing.{edited};
 ghost use Rattle.t1_pairs.specs.Kerning.{kern, pairs};
 ghost use Rattle.t1_parts.specs.Printing.{text};
@@ -303,7 +303,7 @@ impl<'a> Session<'a> {
     /// glyphs that the edit makes stale are run, and no others.
     fn make(&mut self, edit: &Edit, change: Change<'a>) -> Result<(), Cause>
         requires none { self.old.state.batch ≡ None }
-        requires serves { Serves change self.old.state.source self.old.state.pairs }
+        requires serves { Suits change self.old.state.source self.old.state.pairs }
         requires made { edited self.old.state.source self.old.state.pairs edit.now
             ≡ Ok (changed change self.old.state.source self.old.state.pairs) }
         ensures took { Took self.old.state

@@ -4,7 +4,7 @@ use Rattle.std.specs.List.{list_any, find}
 use Rattle.std.proofs.lemmas.Bool.{cases_Bool}
 use Rattle.t1_parts.specs.declared.item.Item.{Item}
 use Rattle.t1_parts.specs.declared.item.Item.TheVariants.{Plain, Section, Subr, Glyph}
-use Rattle.t1_parts.specs.Items.{line_says, stands_alone}
+use Rattle.t1_parts.specs.Stretches.{line_says, stands_alone}
 
 pub any_alone : (test : Item → Bool) → ((l : List ℕ) → test (Plain l) ≡ false) → (items : List Item) → list_any test (filter stands_alone items) ≡ list_any test items
 unfolding stands_alone

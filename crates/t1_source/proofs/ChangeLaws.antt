@@ -11,7 +11,7 @@ use Rattle.t1_parts.specs.declared.item.Item.TheVariants.{Plain, Section, Subr, 
 use Rattle.t1_parts.specs.Sections.{is_glyphs_line}
 use Rattle.t1_parts.specs.Counts.{subrs_needed, glyphs_needed, raised_item, raised, is_glyph_entry}
 use Rattle.t1_parts.specs.SourceParts.{SourceParts}
-use Rattle.t1_parts.specs.Items.{stands_alone, StandsAloneAt}
+use Rattle.t1_parts.specs.Stretches.{stands_alone, StandsAloneAt}
 use Rattle.t1_parts.proofs.AloneLaws.{alone_at, alone_glyph, alone_subr, alone_saying}
 use Rattle.t1_parts.specs.LenIV.{says_lead}
 use Rattle.t1_source.specs.WellFormed.{IsWellFormed}

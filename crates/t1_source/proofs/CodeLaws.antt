@@ -9,7 +9,8 @@ use Rattle.std.proofs.lemmas.List.{take_more, get_or-set_same, get_or-set_other,
 use Rattle.std.proofs.lemmas.List.Elements.{filter_map-append}
 use Rattle.std.proofs.lemmas.Bool.{eq-eqb, cases_Bool, eqb-true}
 use Rattle.t1_text.specs.Tokens.{tokens, is_token}
-use Rattle.t1_code.specs.Encoding.{named_in, standard_name, standard_names}
+use Rattle.t1_code.specs.Encoding.{standard_name, standard_names}
+use Rattle.t1_code.specs.EncodingRows.{named_in}
 use Rattle.t1_parts.specs.Encoding.{slot_of_tokens, slots}
 use Rattle.t1_parts.specs.SourceParts.{SourceParts}
 use Rattle.t1_parts.specs.Reading.{standard}

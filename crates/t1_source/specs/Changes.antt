@@ -3,7 +3,7 @@ use Rattle.std.specs.Prelude.{◌≡◌, ◌<◌, ◌≤◌, Bool, true, false, 
 use Rattle.std.specs.List.{insert, remove, slice_set, slice_index_or}
 use Rattle.t1_parts.specs.declared.item.Item.{Item}
 use Rattle.t1_parts.specs.declared.item.Item.TheVariants.{Plain, Subr, Glyph}
-use Rattle.t1_parts.specs.Items.{StandsAloneAt}
+use Rattle.t1_parts.specs.Stretches.{StandsAloneAt}
 use Rattle.t1_parts.specs.SourceParts.{SourceParts}
 use Rattle.t1_source.specs.declared.editing.change.Change.{Change}
 use Rattle.t1_source.specs.declared.editing.change.Change.TheVariants.{PutItem, InsertItem, RemoveItem, PutClear, PutPair, InsertPair, RemovePair}
@@ -42,7 +42,7 @@ Fits (RemovePair at) s k = at < length k
 
 -- word, edits: the change can be made of this source and these pairs, and leaves what is true of all that were read
 -- or edited
-pub record Serves (change : Change) (s : SourceParts) (k : List Pair) : Type 0 where
+pub record Suits (change : Change) (s : SourceParts) (k : List Pair) : Type 0 where
   pub fits : Fits change s k
   pub source : IsWellFormed (changed change s k).0
   pub pairs : are_pairs (changed change s k).1 ≡ true

@@ -1,13 +1,11 @@
 -- Edits of a source and its kerning pairs.
-use Rattle.std.specs.Prelude.{◌≡◌, ℕ, Bool, true, false, not, ◌+◌, ◌-◌, ◌||◌, ◌==◌, nat_le, ℤ, pos, negsuc, if◌then◌else◌, Option, Some, None, Result, Ok, Err, ok_or, option_map, unwrap_or, List, [], ◌∷◌, ◌++◌, length, take, drop, reverse, filter, codes, flat_map, decimal}
+use Rattle.std.specs.Prelude.{ℕ, Bool, true, false, not, ◌+◌, ◌-◌, ◌||◌, ◌==◌, nat_le, ℤ, pos, negsuc, if◌then◌else◌, Option, Some, None, Result, Ok, Err, ok_or, option_map, unwrap_or, List, [], ◌∷◌, ◌++◌, length, take, drop, reverse, filter, codes, flat_map, decimal}
 use Rattle.std.specs.List.{list_any, find, position, position_or_len, insert, remove, slice_set, slice_index_or}
 use Rattle.t1_frac.specs.Outcome.{◌>>=◌}
 use Rattle.t1_frac.specs.Words.{words}
 use Rattle.t1_parts.specs.declared.item.Item.{Item}
 use Rattle.t1_parts.specs.declared.item.Item.TheVariants.{Plain, Section, Subr, Glyph}
 use Rattle.t1_pairs.specs.declared.pairs.Pair.{Pair}
-use Rattle.t1_source.specs.declared.edit.Cause.{Cause}
-use Rattle.t1_source.specs.declared.edit.Cause.TheVariants as causes
 use Rattle.t1_source.specs.declared.edit.Edit.{Edit}
 use Rattle.t1_source.specs.declared.edit.Edit.TheVariants.{ReplaceGlyph, AddGlyph, RemoveGlyph, ReplaceSubr, AddSubr, RemoveSubr, Encode, Unencode, LenIv, Kern, Unkern}
 use Rattle.t1_source.specs.declared.edit.Rule.{Rule}
@@ -246,15 +244,3 @@ edited s k (Unencode code) = beside_pairs k (unencoded s code)
 edited s k (LenIv n) = beside_pairs k (lead_edited s n)
 edited s k (Kern left right v) = beside_source s (kerned k left right v)
 edited s k (Unkern left right) = beside_source s (unkerned k left right)
-
--- word, edits: a cause is the rule that the definition gives, or want of memory
-abbrev pub ReportsRule : {Y : Type 0} → Cause → Result Y Rule → Type 0
-ReportsRule causes.Memory given = Unit {0}
-ReportsRule (causes.Rule rule) given = given ≡ Err rule
-ReportsRule (causes.Fault fault) given = ⊥
-
--- word, edits: an edit answers what a definition gives: its value, as the view sees it, or its rule, unless memory
--- ran out
-abbrev pub Edits : {X Y : Type 0} → (X → Y) → Result X Cause → Result Y Rule → Type 0
-Edits view (Ok x) given = given ≡ Ok (view x)
-Edits view (Err cause) given = ReportsRule cause given

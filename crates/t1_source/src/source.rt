@@ -46,7 +46,7 @@ ghost use Rattle.t1_parts.specs.LenIV.{lead};
 ghost use Rattle.t1_parts.specs.Operator.{operator};
 ghost use Rattle.t1_parts.specs.Header.{header};
 ghost use Rattle.t1_source.specs.Codes.{code_of, name_at, name_of_code};
-ghost use Rattle.t1_parts.specs.Items.{StandsAloneAt};
+ghost use Rattle.t1_parts.specs.Stretches.{StandsAloneAt};
 ghost use Rattle.t1_parts.specs.Printing.{text};
 ghost use Rattle.t1_source.specs.Changes.{IsInPlaceOf};
 ghost use Rattle.t1_source.specs.Editing.{with_items, with_clear};

@@ -4,7 +4,8 @@ use Rattle.std.proofs.lemmas.Bool.{cases_Bool, not-true, not-false, eqb-true, eq
 use Rattle.std.proofs.lemmas.List.{length-drop}
 use Rattle.std.proofs.lemmas.List.Sums.{length-filter}
 use Rattle.std.proofs.Math.Numerals.{one-add}
-use Rattle.t1_text.specs.Lines.{begins_with, unified, line_ends, after_end}
+use Rattle.t1_text.specs.Lines.{begins_with, unified, after_end}
+use Rattle.t1_text.specs.LineEnds.{line_ends}
 use Rattle.t1_text.proofs.LineLaws.{line_len, stays, not_ended, after_line}
 use Rattle.t1_text.proofs.ScanLaws.{fails}
 use Rattle.memchr.specs.Find.{IsFirstByte, is_byte}

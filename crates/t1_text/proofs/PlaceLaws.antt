@@ -5,7 +5,8 @@ use Rattle.std.proofs.lemmas.Bool.{cases_Bool, ne_eqb, eq-eqb, not-true, or_part
 use Rattle.std.proofs.Math.Numerals.{one-add}
 use Rattle.t1_frac.specs.Words.{is_blank, trimmed_front}
 use Rattle.t1_frac.proofs.WordLaws.{front_stays}
-use Rattle.t1_text.specs.Tokens.{token_len, is_bracket, is_regular, places_from, joins_at, onto_place}
+use Rattle.t1_text.specs.Tokens.{is_bracket, is_regular, places_from, joins_at, onto_place}
+use Rattle.t1_text.specs.TokenLengths.{token_len}
 
 -- what a regular byte isn't
 pub regular_parts : (c : ℕ) → is_regular c ≡ true → (is_blank c ≡ false) × (is_bracket c ≡ false) × (c == 37 ≡ false)

@@ -3,7 +3,8 @@ use Rattle.std.proofs.Common.{◌≡◌, ℕ, Bool, true, false, ◌==◌, ◌+�
 use Rattle.std.specs.List.{onto_first, prefix_len}
 use Rattle.std.proofs.lemmas.Bool.{cases_Bool}
 use Rattle.t1_frac.specs.Words.{is_blank, trimmed_front}
-use Rattle.t1_text.specs.Tokens.{tokens, token_len, is_bracket, is_regular, token_goes_on, places_from, joins_at, onto_place}
+use Rattle.t1_text.specs.Tokens.{tokens, is_bracket, is_regular, token_goes_on, places_from, joins_at, onto_place}
+use Rattle.t1_text.specs.TokenLengths.{token_len}
 use Rattle.t1_text.proofs.PlaceLaws.{regular_parts, other_place, place_at, no_place_at}
 
 -- the tokens without their places

@@ -6,7 +6,8 @@ use Rattle.std.proofs.lemmas.List.{append-nil}
 use Rattle.std.proofs.lemmas.List.Folds.{list_all-append}
 use Rattle.t1_frac.specs.Words.{words}
 use Rattle.t1_frac.proofs.AppendLaws.{words_apart}
-use Rattle.t1_text.specs.Lines.{begins_with, lines, line_ends, is_line, is_line_end}
+use Rattle.t1_text.specs.Lines.{begins_with, lines, is_line, is_line_end}
+use Rattle.t1_text.specs.LineEnds.{line_ends}
 use Rattle.t1_text.proofs.LineLaws.{line_len, stays, longer, not_ended, after_line, first_line_lem}
 use Rattle.t1_text.proofs.ScanLaws.{fails}
 use Rattle.memchr.specs.Find.{Nowhere, Passes}

@@ -1,5 +1,5 @@
 -- Lines of a text.
-use Rattle.std.specs.Prelude.{ℕ, Bool, false, not, ◌||◌, ◌&&◌, ◌==◌, if◌then◌else◌, List, [], ◌∷◌, ◌++◌, drop, length, filter, reverse, flat_map}
+use Rattle.std.specs.Prelude.{ℕ, Bool, false, not, ◌||◌, ◌&&◌, ◌==◌, if◌then◌else◌, List, [], ◌∷◌, ◌++◌, drop, reverse, flat_map}
 use Rattle.std.specs.List.{list_all, onto_first}
 use Rattle.t1_frac.specs.Ascii.{carriage_return, line_feed}
 use Rattle.t1_frac.specs.Words.{trimmed_front}
@@ -27,10 +27,6 @@ split_lines (c ∷ rest) = if c == line_feed then [] ∷ split_lines rest else o
 -- profile, lines: they end with LF, CR LF or CR
 abbrev pub lines : List ℕ → List (List ℕ)
 lines bytes = split_lines (unified bytes)
-
--- word, lines: how many line ends a text has
-abbrev pub line_ends : List ℕ → ℕ
-line_ends bytes = length (filter (λ c. c == line_feed) (unified bytes))
 
 -- profile, lines: the bytes after a line end, of which CR LF is one
 abbrev pub after_end : List ℕ → List ℕ

@@ -1,6 +1,6 @@
 -- Tokens of a line.
 use Rattle.std.specs.Prelude.{ℕ, Bool, false, not, ◌||◌, ◌==◌, ◌+◌, if◌then◌else◌, Option, Some, None, List, [], ◌∷◌, map}
-use Rattle.std.specs.List.{before_first, prefix_len, last_or}
+use Rattle.std.specs.List.{before_first, last_or}
 use Rattle.std.specs.Str.{bytes_eq}
 use Rattle.t1_frac.specs.Ascii.{close_brace, close_bracket, close_parenthesis, greater_than, less_than, open_brace, open_bracket, open_parenthesis, percent, slash}
 use Rattle.t1_frac.specs.Words.{is_blank}
@@ -44,11 +44,6 @@ places_from i (c ∷ rest) =
 -- profile, tokens: the tokens of a line
 abbrev pub tokens : List ℕ → List (List ℕ)
 tokens l = map (λ t. t.1) (places_from 0 l)
-
--- word, tokens: how many bytes the token takes that begins the list
-abbrev pub token_len : List ℕ → ℕ
-token_len [] = 0
-token_len (c ∷ rest) = if is_bracket c then 1 else 1 + prefix_len is_regular rest
 
 -- profile, tokens: the first token
 abbrev pub first_token : List (List ℕ) → Option (List ℕ)

@@ -8,7 +8,8 @@ ghost use Rattle.t1_frac.specs.Ascii.{line_feed};
 ghost use Rattle.t1_frac.specs.Outcome.{fault_at};
 ghost use Rattle.t1_frac.specs.Words.{is_blank};
 ghost use Rattle.t1_text.specs.Delimiters.{is_safe};
-ghost use Rattle.t1_text.specs.Lines.{begins_with, lines, line_ends, is_line, is_line_end};
+ghost use Rattle.t1_text.specs.Lines.{begins_with, lines, is_line, is_line_end};
+ghost use Rattle.t1_text.specs.LineEnds.{line_ends};
 ghost use Rattle.t1_text.specs.Lines.{after_end, trimmed};
 
 use memchr::{memchr, memchr2, memchr3, memrchr2};

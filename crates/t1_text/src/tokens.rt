@@ -5,7 +5,8 @@ ghost use Rattle.std.specs.Prelude.{option_map};
 ghost use Rattle.std.specs.List.{prefix_len};
 ghost use Rattle.std.specs.Str.{bytes_eq};
 ghost use Rattle.t1_frac.specs.Words.{is_blank};
-ghost use Rattle.t1_text.specs.Tokens.{is_bracket, is_regular, token_len, tokens, first_token};
+ghost use Rattle.t1_text.specs.Tokens.{is_bracket, is_regular, tokens, first_token};
+ghost use Rattle.t1_text.specs.TokenLengths.{token_len};
 ghost use Rattle.t1_text.specs.Tokens.{first_is, last_is, after_token, places_from};
 
 use t1_frac::{blank_len, is_blank, skip_blanks};

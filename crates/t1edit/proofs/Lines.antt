@@ -1,7 +1,8 @@
 -- Lines on standard error.
 use Rattle.std.proofs.Common.{◌≡◌, ◌∙◌, ◌++◌, ℕ, List, inl, inr, refl, sym, ap, subst, codes, append_assoc}
 use Rattle.std.specs.Prelude.{Option, Result, Ok, Err}
-use Rattle.t1_code.specs.Counted.{Tally, Writes, WritesAll, WritesFront}
+use Rattle.t1_code.specs.Counted.{Tally, WritesAll, WritesFront}
+use Rattle.t1_code.specs.Writing.{Writes}
 use Rattle.t1_code.proofs.Writing.{WritesAll-append, WritesFront-append, WritesFront-longer}
 use Rattle.t1edit.specs.FileErrors.{file_error_text}
 use Rattle.t1edit.specs.Several.{AreWritten, answer_lines, front_of}

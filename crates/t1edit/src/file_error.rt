@@ -1,6 +1,6 @@
 //! Why a call over the bytes of a file stops.
 ghost use Rattle.std.specs.Prelude.{◌≡◌};
-ghost use Rattle.t1_code.specs.Counted.{Writes};
+ghost use Rattle.t1_code.specs.Writing.{Writes};
 ghost use Rattle.t1edit.specs.FileErrors.{file_error_text, status_of_file};
 ghost use Rattle.t1edit.specs.Stopping.{served};
 ghost use Rattle.t1edit.specs.Status.{line_with};

@@ -1,6 +1,6 @@
 //! A line that is written.
 ghost use Rattle.std.specs.Prelude.{◌≡◌, ◌++◌};
-ghost use Rattle.t1_code.specs.Counted.{Writes};
+ghost use Rattle.t1_code.specs.Writing.{Writes};
 ghost use Rattle.t1_code.specs.Parts.{slices_bytes};
 ghost use Rattle.t1edit.specs.Status.{line_with};
 

@@ -1,6 +1,6 @@
 //! Several files, checked in turn.
 ghost use Rattle.std.specs.Prelude.{◌≡◌};
-ghost use Rattle.t1_code.specs.Counted.{Writes};
+ghost use Rattle.t1_code.specs.Writing.{Writes};
 ghost use Rattle.t1edit.specs.FileErrors.{file_error_text};
 ghost use Rattle.t1edit.specs.Several.{AreWritten, Becomes, ChecksAll};
 ghost use Rattle.t1edit.specs.Several.{answer_lines, front_of, status_of_answer};

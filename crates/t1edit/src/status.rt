@@ -1,6 +1,6 @@
 //! How the program ends.
 ghost use Rattle.std.specs.Prelude.{◌≡◌, IfErr};
-ghost use Rattle.t1_code.specs.Counted.{Writes};
+ghost use Rattle.t1_code.specs.Writing.{Writes};
 ghost use Rattle.t1edit.specs.FileErrors.{error_text, status_of, status_of_file};
 ghost use Rattle.t1edit.specs.Status.{error_line, line_with, misuse_line};
 ghost use Rattle.t1edit.specs.Status.{status_of_misuse, status_of_stop, status_of_run};

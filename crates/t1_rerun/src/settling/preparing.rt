@@ -2,7 +2,8 @@
 ghost use Rattle.std.specs.Prelude.{◌≡◌, ◌&&◌, ℕ, Bool, false, List, Option, None, Some, IfOk};
 ghost use Rattle.std.specs.Prelude.{IfSome, true, is_some, length, not, if◌then◌else◌};
 ghost use Rattle.std.specs.Str.{bytes_eq};
-ghost use Rattle.t1_run.specs.Run.{Glyph, body_at};
+ghost use Rattle.t1_run.specs.Run.{Glyph};
+ghost use Rattle.t1_run.specs.RunKeys.{body_at};
 ghost use Rattle.t1_extent.specs.Kept.{TracedRun};
 ghost use Rattle.t1_afm.specs.declared.bbox.BBox.{BBox};
 ghost use Rattle.t1_cache.specs.declared.records.Named.TheVariants as named;

@@ -3,7 +3,8 @@
 ghost use Rattle.std.specs.Prelude.{◌≡◌, IfOk};
 ghost use Rattle.t1_parts.specs.SourceParts.{SourceParts};
 ghost use Rattle.t1_source.specs.Changes.{changed, Fits};
-ghost use Rattle.t1_source.specs.Editing.{Edits, beside_source, kerned, unkerned};
+ghost use Rattle.t1_source.specs.Editing.{beside_source, kerned, unkerned};
+ghost use Rattle.t1_source.specs.EditOutcomes.{Edits};
 
 use crate::edit::{Cause, Rule};
 use crate::editing::change::Change;

@@ -13,8 +13,9 @@ mod subrs;
 
 ghost use Rattle.std.specs.Prelude.{◌≡◌, ◌-◌, ◌<◌, ◌≤◌, IfOk, IfSome, IsOk, OnOk, OnErr, false};
 ghost use Rattle.std.specs.Prelude.{unwrap_or};
-ghost use Rattle.t1_source.specs.Changes.{changed, Fits, Serves, takes_room};
-ghost use Rattle.t1_source.specs.Editing.{Edits, edited};
+ghost use Rattle.t1_source.specs.Changes.{changed, Fits, Suits, takes_room};
+ghost use Rattle.t1_source.specs.Editing.{edited};
+ghost use Rattle.t1_source.specs.EditOutcomes.{Edits};
 
 use crate::edit::{Cause, Edit};
 use crate::editing::glyphs::{adding_glyph, removing_glyph, replacing_glyph};
@@ -47,7 +48,7 @@ fn committed<'a>(
     mut pairs: Pairs,
     change: Change<'a>,
 ) -> Result<(Source<'a>, Pairs), AllocError>
-    requires { Serves change source pairs }
+    requires { Suits change source pairs }
     ensures { IfOk result (λ made. made ≡ changed change.entry source.entry pairs) }
 {
     source.commit(&mut pairs, change)?;
@@ -87,7 +88,7 @@ impl<'a> Source<'a> {
     pub fn prepared(&self, pairs: &Pairs, edit: &Edit) -> Result<Change<'a>, Cause>
         ensures change { Edits (λ change. changed change self.now pairs.now) result
             (edited self.now pairs.now edit.now) }
-        ensures serves { IfOk result (λ change. Serves change self.now pairs.now) }
+        ensures serves { IfOk result (λ change. Suits change self.now pairs.now) }
     {
         self.prepared_near(pairs, edit, 0)
     }
@@ -102,7 +103,7 @@ impl<'a> Source<'a> {
     ) -> Result<Change<'a>, Cause>
         ensures change { Edits (λ change. changed change self.now pairs.now) result
             (edited self.now pairs.now edit.now) }
-        ensures serves { IfOk result (λ change. Serves change self.now pairs.now) }
+        ensures serves { IfOk result (λ change. Suits change self.now pairs.now) }
     {
         let _items = self.kept_items();
         let _count = pairs.len();
@@ -113,7 +114,7 @@ impl<'a> Source<'a> {
     /// Makes a change that was prepared for this source and these pairs. Only an item or a pair
     /// that is put in takes memory: where it runs out, nothing has changed.
     pub fn commit(&mut self, pairs: &mut Pairs, change: Change<'a>) -> Result<(), AllocError>
-        requires { Serves change self.old pairs.old }
+        requires { Suits change self.old pairs.old }
         ensures source { OnOk result (self.new ≡ (changed change.entry self.old pairs.old).0) }
         ensures pairs { OnOk result (pairs.new ≡ (changed change.entry self.old pairs.old).1) }
         ensures err { OnErr result ((self.new ≡ self.old) × (pairs.new ≡ pairs.old)) }
@@ -149,7 +150,7 @@ impl<'a> Source<'a> {
     /// The source and the pairs after a change that was prepared for them. Nothing handed in is
     /// changed.
     fn changed(&self, pairs: &Pairs, change: Change<'a>) -> Result<(Source<'a>, Pairs), AllocError>
-        requires { Serves change self.now pairs.now }
+        requires { Suits change self.now pairs.now }
         ensures { IfOk result (λ made. made ≡ changed change.entry self.now pairs.now) }
     {
         match self.copies(pairs) {

@@ -4,7 +4,8 @@ ghost use Rattle.std.specs.Prelude.{◌≡◌, ◌++◌, ◌<◌, ◌≤◌, Lis
 ghost use Rattle.std.specs.Prelude.{reverse, IfOk, IfSome, MatchResult};
 ghost use Rattle.std.specs.List.{list_any, position};
 ghost use Rattle.t1_source.specs.Changes.{changed, Fits};
-ghost use Rattle.t1_source.specs.Editing.{Edits, array_parts, beside_pairs, is_slot, is_slot_of};
+ghost use Rattle.t1_source.specs.Editing.{array_parts, beside_pairs, is_slot, is_slot_of};
+ghost use Rattle.t1_source.specs.EditOutcomes.{Edits};
 ghost use Rattle.t1_source.specs.Editing.{through_last, slot_line, encoded_lines, encoded};
 ghost use Rattle.t1_source.specs.Editing.{unencoded};
 ghost use Rattle.t1_pairs.specs.declared.pairs.Pair.{Pair};

@@ -2,7 +2,7 @@ use Rattle.std.proofs.Common.{sym, ◌∙◌}
 use Rattle.std.specs.Prelude.{codes}
 use Rattle.t1_afm.specs.Afm.{composite_line}
 use Rattle.t1_afm.proofs.Sections.{section_text, composites_are}
-use Rattle.t1_code.specs.Counted.{outlet}
+use Rattle.t1_code.specs.Writing.{outlet}
 use Rattle.t1_code.proofs.Writing.{passing, Written-from, Written-last}
 use Rattle.t1_afm.proofs.afm.put_composites.Goals as goal
 

@@ -2,7 +2,7 @@ use Rattle.std.specs.Prelude.{codes}
 use Rattle.std.proofs.lemmas.Result.{err_from_is_err_and}
 use Rattle.t1_afm.specs.Afm.{lines_text, value_lines, heights, char_line}
 use Rattle.t1_afm.proofs.Sections.{section_text, glyphs_are}
-use Rattle.t1_code.specs.Counted.{outlet}
+use Rattle.t1_code.specs.Writing.{outlet}
 use Rattle.t1_code.proofs.Writing.{passing, Written-from, Written-step, Written-fails, Written-last}
 use Rattle.t1_afm.proofs.afm.put_glyphs.Goals as goal
 

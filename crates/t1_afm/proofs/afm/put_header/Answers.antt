@@ -2,7 +2,7 @@ use Rattle.std.proofs.Common.{ap, ◌∙◌}
 use Rattle.std.proofs.lemmas.Result.{err_from_is_err_and}
 use Rattle.t1_afm.specs.Afm.{lines_text, value_lines, values_before_box, values_after_box, sides, scheme}
 use Rattle.t1_afm.proofs.Sections.{start_line, box_line, scheme_line, header_is}
-use Rattle.t1_code.specs.Counted.{outlet}
+use Rattle.t1_code.specs.Writing.{outlet}
 use Rattle.t1_code.proofs.Writing.{passing, Written-from, Written-step, Written-fails, Written-last}
 use Rattle.t1_afm.proofs.afm.put_header.Goals as goal
 

@@ -3,7 +3,7 @@ use Rattle.std.specs.Prelude.{codes}
 use Rattle.std.proofs.lemmas.Result.{err_from_is_err_and}
 use Rattle.t1_afm.specs.Afm.{pair_line}
 use Rattle.t1_afm.proofs.Sections.{section_text, kerning_start, kerning_end, kerning_is}
-use Rattle.t1_code.specs.Counted.{outlet}
+use Rattle.t1_code.specs.Writing.{outlet}
 use Rattle.t1_code.proofs.Writing.{passing, Written-from, Written-step, Written-fails, Written-last}
 use Rattle.t1_afm.proofs.afm.put_kerning.Goals as goal
 

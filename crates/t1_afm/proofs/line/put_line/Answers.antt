@@ -1,6 +1,6 @@
 use Rattle.std.proofs.Common.{◌++◌}
 use Rattle.std.proofs.lemmas.Result.{err_from_is_err_and}
-use Rattle.t1_code.specs.Counted.{outlet}
+use Rattle.t1_code.specs.Writing.{outlet}
 use Rattle.t1_code.proofs.Writing.{passing, Written-none, Written-step, Written-fails, Written-last}
 use Rattle.t1_afm.specs.Afm.{rest_text}
 use Rattle.t1_afm.specs.Lines.{line_words}

@@ -1,7 +1,7 @@
 use Rattle.std.proofs.Common.{◌<◌, ◌∷◌, [], get_or, length, arith}
 use Rattle.std.proofs.lemmas.List.{drop_all}
 use Rattle.std.proofs.lemmas.Result.{err_from_is_err_and}
-use Rattle.t1_code.specs.Counted.{outlet}
+use Rattle.t1_code.specs.Writing.{outlet}
 use Rattle.t1_code.proofs.Writing.{passing, Written-step, Written-fails, Written-last}
 use Rattle.t1_afm.specs.Lines.{word_text}
 use Rattle.t1_afm.proofs.WrittenLines.{rest_is, no_word}

@@ -1,5 +1,5 @@
 use Rattle.std.proofs.Common.{drop}
-use Rattle.t1_code.specs.Counted.{outlet}
+use Rattle.t1_code.specs.Writing.{outlet}
 use Rattle.t1_code.proofs.Writing.{passing, Written}
 use Rattle.t1_afm.specs.Afm.{rest_text}
 use Rattle.t1_afm.specs.Lines.{line_words}

@@ -1,6 +1,6 @@
 use Rattle.std.proofs.Common.{◌<◌, length, arith}
 use Rattle.std.proofs.lemmas.Result.{err_from_is_err_and}
-use Rattle.t1_code.specs.Counted.{outlet}
+use Rattle.t1_code.specs.Writing.{outlet}
 use Rattle.t1_code.proofs.Writing.{passing, Written-step, Written-fails}
 use Rattle.t1_afm.proofs.WrittenLines.{parts_are}
 use Rattle.t1_afm.proofs.part.put_parts.Goals as goal

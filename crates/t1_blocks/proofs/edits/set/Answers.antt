@@ -1,6 +1,7 @@
 use Rattle.std.proofs.Common.{ap, subst, ◌∙◌}
 use Rattle.std.specs.List.{slice_set}
-use Rattle.t1_blocks.specs.Blocks.{joined, IsPlace}
+use Rattle.t1_blocks.specs.Blocks.{blocks_joined}
+use Rattle.t1_blocks.specs.BlockPlaces.{IsPlaceInBlocks}
 use Rattle.t1_blocks.proofs.JoinLaws.{set_at}
 use Rattle.t1_blocks.proofs.edits.set.Goals as goal
 
@@ -8,5 +9,5 @@ pub returns : goal.returns
 returns g c =
     let bs = c.args.blocks.now.items in
     let p = c.place_of-index.result in
-    let place : IsPlace c.args.at bs p = subst (λ xs. IsPlace c.args.at xs p) c.as_slice.ensures.value c.place_of-index.ensures in
-    ap (λ b. joined (slice_set bs p.0 b)) c.set.ensures ∙ set_at c.args.at bs p c.index_mut.result.now place c.index_mut.ensures.value c.args.element
+    let place : IsPlaceInBlocks c.args.at bs p = subst (λ xs. IsPlaceInBlocks c.args.at xs p) c.as_slice.ensures.value c.place_of-index.ensures in
+    ap (λ b. blocks_joined (slice_set bs p.0 b)) c.set.ensures ∙ set_at c.args.at bs p c.index_mut.result.now place c.index_mut.ensures.value c.args.element

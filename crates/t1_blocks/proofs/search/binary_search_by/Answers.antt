@@ -1,7 +1,8 @@
 use Rattle.std.proofs.Common.{◌≡◌, ◌+◌, ◌<◌, Less, Greater, HoldsAt, Equal, length, sym, subst, arith}
 use Rattle.std.specs.List.{slice_index_or}
 use Rattle.std.specs.List.Sorted.{IsPartitionPoint}
-use Rattle.t1_blocks.specs.Blocks.{joined, IsAfter}
+use Rattle.t1_blocks.specs.Blocks.{blocks_joined}
+use Rattle.t1_blocks.specs.BlockPlaces.{IsAfter}
 use Rattle.t1_blocks.proofs.JoinLaws.{bounded}
 use Rattle.t1_blocks.proofs.OrderLaws.{found_in_block, missing_in_block, missing_past}
 use Rattle.t1_blocks.proofs.search.binary_search_by.Goals as goal
@@ -11,7 +12,7 @@ returns-then-index-blocks-clause-position g c = λ by asked up.
     let bs = c.args.blocks.now in
     let after = (c.block_of-index.ensures.answer by asked).1 in
     let end : c.block_of-index.result ≡ length bs = omega (arith, c.if-index-blocks.true) in
-    subst (λ n. IsPartitionPoint (λ y. by y ≡ Less) (λ y. by y ≡ Greater) (joined bs) n) (sym c.requires.len) (missing_past by bs (subst (IsAfter by bs) end after) up)
+    subst (λ n. IsPartitionPoint (λ y. by y ≡ Less) (λ y. by y ≡ Greater) (blocks_joined bs) n) (sym c.requires.len) (missing_past by bs (subst (IsAfter by bs) end after) up)
 
 pub overflow_add-result : goal.overflow_add-result
 overflow_add-result g c =
@@ -57,7 +58,7 @@ returns-in-Ok-clause-position g c = λ by asked.
     let here : i < length bs = omega (arith, c.if-index-blocks.false, c.block_of-index.ensures.within) in
     let is : b ≡ slice_index_or bs i b = subst (λ t. t ≡ slice_index_or bs i t) (sym c.as_slice.ensures.value) c.index-blocks-index.is in
     let found = c.in-Ok.ensures.position by (c.block_of-index.ensures.answer by asked).0 in
-    subst (λ n. HoldsAt (λ y. by y ≡ Equal) (joined bs) (n + c.in-Ok.at)) (sym c.len_before-before.ensures) (found_in_block by bs i c.in-Ok.at b here is c.in-Ok.ensures.bound found)
+    subst (λ n. HoldsAt (λ y. by y ≡ Equal) (blocks_joined bs) (n + c.in-Ok.at)) (sym c.len_before-before.ensures) (found_in_block by bs i c.in-Ok.at b here is c.in-Ok.ensures.bound found)
 
 pub returns-in-Err-clause-position : goal.returns-in-Err-clause-position
 returns-in-Err-clause-position g c = λ by asked up.
@@ -68,5 +69,5 @@ returns-in-Err-clause-position g c = λ by asked up.
     let is : b ≡ slice_index_or bs i b = subst (λ t. t ≡ slice_index_or bs i t) (sym c.as_slice.ensures.value) c.index-blocks-index.is in
     let found = c.block_of-index.ensures.answer by asked in
     let searched = c.in-Err.ensures.position by found.0 in
-    subst (λ n. IsPartitionPoint (λ y. by y ≡ Less) (λ y. by y ≡ Greater) (joined bs) (n + c.in-Err.at)) (sym c.len_before-before.ensures)
+    subst (λ n. IsPartitionPoint (λ y. by y ≡ Less) (λ y. by y ≡ Greater) (blocks_joined bs) (n + c.in-Err.at)) (sym c.len_before-before.ensures)
     (missing_in_block by bs i c.in-Err.at b here is c.in-Err.ensures.bound found.1 found.2 searched up)

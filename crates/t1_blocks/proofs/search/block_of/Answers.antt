@@ -1,5 +1,5 @@
 use Rattle.std.proofs.Common.{◌+◌, ◌/◌, ◌-◌, true, false, subst, arith}
-use Rattle.t1_blocks.specs.Blocks.{EndsBefore}
+use Rattle.t1_blocks.specs.BlockPlaces.{EndsBefore}
 use Rattle.t1_blocks.proofs.OrderLaws.{at_index}
 use Rattle.t1_blocks.proofs.search.block_of.Goals as goal
 

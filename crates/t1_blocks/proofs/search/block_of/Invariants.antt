@@ -1,6 +1,6 @@
 use Rattle.std.proofs.Common.{◌≤◌, ◌-◌, Ordering, length}
 use Rattle.std.specs.Fn.{ComputesKey}
-use Rattle.t1_blocks.specs.Blocks.{IsAfter, IsUpTo}
+use Rattle.t1_blocks.specs.BlockPlaces.{IsAfter, IsUpTo}
 use Rattle.t1_blocks.proofs.search.block_of.Given as goal
 
 -- the block that is looked for stands between the two

@@ -1,6 +1,7 @@
 use Rattle.std.proofs.Common.{◌≡◌, ◌∙◌, ap, cond, map, refl, sym}
 use Rattle.std.specs.Str.{bytes_eq}
-use Rattle.t1_run.specs.Run.{Glyph, body_at, key_eq}
+use Rattle.t1_run.specs.Run.{Glyph}
+use Rattle.t1_run.specs.RunKeys.{body_at, key_eq}
 use Rattle.t1_cache.specs.declared.records.GlyphRecord.{GlyphRecord}
 use Rattle.t1_cache.specs.declared.records.Records.{Records}
 use Rattle.t1_cache.specs.Bodies.{glyph_body, record_bodies}

@@ -2,7 +2,8 @@ use Rattle.std.proofs.Common.{Vec, Global, ◌≡◌, ◌∙◌, ◌++◌, [], �
 use Rattle.std.specs.Map.{lookup, remove_entry}
 use Rattle.std.specs.Str.{bytes_eq}
 use Rattle.indexmap.proofs.CallerLemmas.{insert_entry-new}
-use Rattle.t1_run.specs.Run.{Glyph, body_at, key_eq}
+use Rattle.t1_run.specs.Run.{Glyph}
+use Rattle.t1_run.specs.RunKeys.{body_at, key_eq}
 use Rattle.t1_cache.specs.declared.records.Records.{Records}
 use Rattle.t1_cache.specs.Bodies.{glyph_body, record_bodies}
 use Rattle.t1_cache.specs.Renewed.{kept}

@@ -1,7 +1,8 @@
 use Rattle.std.proofs.Common.{Vec, Global, ◌≡◌, ◌∙◌, ℕ, None, ap, cond, map, refl, sym}
 use Rattle.std.specs.Map.{lookup}
 use Rattle.std.specs.Str.{bytes_eq}
-use Rattle.t1_run.specs.Run.{Glyph, body_at, key_eq}
+use Rattle.t1_run.specs.Run.{Glyph}
+use Rattle.t1_run.specs.RunKeys.{body_at, key_eq}
 use Rattle.t1_cache.specs.declared.records.Records.{Records}
 use Rattle.t1_cache.specs.Bodies.{glyph_body, record_bodies}
 use Rattle.t1_cache.specs.Recorded.{kept_of}

@@ -1,7 +1,7 @@
 use Rattle.std.proofs.Common.{Vec, Global, ◌∙◌, ◌+◌, ap, arith, cond, sym}
 use Rattle.std.proofs.lemmas.List.{take_all}
 use Rattle.t1_cache.specs.declared.records.Named.{Named}
-use Rattle.t1_run.specs.Run.{key_eq}
+use Rattle.t1_run.specs.RunKeys.{key_eq}
 use Rattle.t1_cache.specs.Users.{pairs_of_key}
 use Rattle.t1_cache.specs.EditKeys.{key_of}
 use Rattle.t1_cache.proofs.Rooming.{wanted-more}

@@ -1,6 +1,7 @@
 use Rattle.std.proofs.Common.{Vec, Global, ℕ, ◌∙◌, ◌+◌, ap, arith, cond, subst, sym, take}
 use Rattle.std.proofs.lemmas.List.{take_all}
-use Rattle.t1_run.specs.Run.{Key, key_eq}
+use Rattle.t1_run.specs.Run.{Key}
+use Rattle.t1_run.specs.RunKeys.{key_eq}
 use Rattle.t1_cache.specs.declared.records.Named.{Named}
 use Rattle.t1_cache.specs.Room.{MayJoin}
 use Rattle.t1_cache.specs.Users.{users_at, pairs_of_key}

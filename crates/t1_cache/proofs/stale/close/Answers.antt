@@ -1,6 +1,6 @@
 use Rattle.std.proofs.Common.{◌+◌, ◌-◌, ◌<◌, ◌≤◌, length, get_or, ℕ, List, [], ap, arith}
 use Rattle.std.specs.Borrow.{Bor}
-use Rattle.t1_cache.specs.Users.{among, glyph_users, has_name}
+use Rattle.t1_cache.specs.Users.{among, glyph_users, is_name_among}
 use Rattle.t1_cache.proofs.Closing.{closing-first, closing-more, closing-bound, all_users}
 use Rattle.t1_cache.proofs.Names.{names-once}
 use Rattle.t1_cache.proofs.stale.close.Goals as goal
@@ -22,7 +22,7 @@ loop-at-preserved c =
     let h : c.loop-at.at < length c.loop-at.found.keys = omega (arith, c.loop-at-test.true, c.len.ensures.len) in
     let keys = c.loop-at.found.keys in
     let at = c.loop-at.at in
-    closing-more (λ name. name.now) (has_name (λ name. name.now) c.args.found.now.keys) (λ p. among (glyph_users c.args.glyphs.now.entries p)) keys c.add_users_of.new.found.keys reported.after.0 at
+    closing-more (λ name. name.now) (is_name_among (λ name. name.now) c.args.found.now.keys) (λ p. among (glyph_users c.args.glyphs.now.entries p)) keys c.add_users_of.new.found.keys reported.after.0 at
     (record { ref_ptr = (0, 0); now = [] }) (get_or {A = Bor (List ℕ)} c.as_slice.result.now at (record { ref_ptr = (0, 0); now = [] })).now
     c.loop-at.invariant h (ap (λ l. (get_or {A = Bor (List ℕ)} l at (record { ref_ptr = (0, 0); now = [] })).now) c.as_slice.ensures.keys) reported.after.1 reported.names
 

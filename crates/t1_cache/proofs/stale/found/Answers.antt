@@ -3,7 +3,7 @@ use Rattle.std.specs.Prelude.{◌||◌}
 use Rattle.std.specs.List.{list_any}
 use Rattle.std.proofs.lemmas.List.{take_all}
 use Rattle.std.proofs.lemmas.List.Folds.{list_any_more}
-use Rattle.t1_cache.specs.Users.{has_name}
+use Rattle.t1_cache.specs.Users.{is_name_among}
 use Rattle.t1_cache.specs.Tables.{is_seed}
 use Rattle.t1_cache.proofs.ThroughTables.{stale-closed}
 use Rattle.t1_cache.proofs.stale.found.Goals as goal
@@ -22,6 +22,6 @@ pub returns-clause-stale : goal.returns-clause-stale
 returns-clause-stale c = λ m tables.
     let edits = c.args.edits.now in
     let records = c.args.records.now in
-    stale-closed m records tables edits (has_name (λ name. name.now) c.loop-named.found.keys)
+    stale-closed m records tables edits (is_name_among (λ name. name.now) c.loop-named.found.keys)
     (λ g. c.loop-named.invariant g ∙ ap (list_any (is_seed records g)) (take_all c.loop-named.named-index edits (omega arith)))
-    (has_name (λ name. name.now) c.close.new.found.keys) c.in_ok-close.ensures.closes
+    (is_name_among (λ name. name.now) c.close.new.found.keys) c.in_ok-close.ensures.closes

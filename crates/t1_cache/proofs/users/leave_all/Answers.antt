@@ -2,7 +2,7 @@ use Rattle.std.proofs.Common.{Vec, Global, ℕ, not, ap, sym, ◌∙◌}
 use Rattle.std.specs.Prelude.{◌&&◌}
 use Rattle.std.specs.Str.{bytes_eq}
 use Rattle.t1_cache.specs.declared.records.Named.{Named}
-use Rattle.t1_run.specs.Run.{key_eq}
+use Rattle.t1_run.specs.RunKeys.{key_eq}
 use Rattle.t1_cache.specs.Users.{has_pair, lists}
 use Rattle.t1_cache.specs.EditKeys.{key_of}
 use Rattle.t1_cache.proofs.Adding.{left-last}

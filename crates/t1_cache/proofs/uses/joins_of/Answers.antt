@@ -7,7 +7,7 @@ use Rattle.std.proofs.lemmas.Slice.Eq.{bytes_eq-Decides}
 use Rattle.t1_run.specs.Footprint.{asks}
 use Rattle.t1_run.specs.Touched.{is_user}
 use Rattle.t1_font.specs.Runs.{drawing_in}
-use Rattle.t1_cache.specs.Users.{has_name}
+use Rattle.t1_cache.specs.Users.{is_name_among}
 use Rattle.t1_cache.proofs.Using.{glyph-more, none-more}
 use Rattle.t1_cache.proofs.uses.joins_of.Goals as goal
 
@@ -20,7 +20,7 @@ loop-name-preserved-in_default c = λ k u.
     let name = (get_or names i none).now in
     let used = is_user k (drawing_in runs u) in
     c.loop-name.invariant k u
-    ∙ none-more (has_name (λ n. n.now) (take i names) u) used (bytes_eq u name)
+    ∙ none-more (is_name_among (λ n. n.now) (take i names) u) used (bytes_eq u name)
     (λ e. ap (λ g. is_user k (drawing_in runs g)) ((bytes_eq-Decides u name).0 e) ∙ sym (c.in_default.ensures k))
     ∙ ap (λ b. b && used) (sym (list_any_more (λ n. bytes_eq u n.now) names i none (omega arith)))
 
@@ -36,6 +36,6 @@ loop-name-preserved c = λ k u.
     let asked = asks drawing.composite drawing.entered k in
     c.in_ok-push_uses.ensures k u
     ∙ ap (λ b. b || (asked && bytes_eq u name)) (c.loop-name.invariant k u)
-    ∙ glyph-more (has_name (λ n. n.now) (take i names) u) used asked (bytes_eq u name)
+    ∙ glyph-more (is_name_among (λ n. n.now) (take i names) u) used asked (bytes_eq u name)
     (λ e. ap (λ g. is_user k (drawing_in runs g)) ((bytes_eq-Decides u name).0 e) ∙ sym (c.in-Some.ensures k))
     ∙ ap (λ b. b && used) (sym (list_any_more (λ n. bytes_eq u n.now) names i none (omega arith)))

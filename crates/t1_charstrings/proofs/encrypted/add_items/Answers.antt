@@ -1,6 +1,7 @@
 use Rattle.std.proofs.Common.{rules, ◌≡◌, [], ◌∙◌, ap, sym}
 use Rattle.std.specs.Option.{option_map, option_or}
-use Rattle.t1_run.specs.Run.{Subr, Glyph, body_at}
+use Rattle.t1_run.specs.Run.{Subr, Glyph}
+use Rattle.t1_run.specs.RunKeys.{body_at}
 use Rattle.t1_font.specs.Bodies.{bodies, bodies_check, subr_among, glyph_among}
 use Rattle.t1_font.proofs.Compiling.{or-none}
 use Rattle.t1_font.proofs.Keys.{at-key}

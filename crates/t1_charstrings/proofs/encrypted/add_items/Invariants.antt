@@ -1,6 +1,6 @@
 use Rattle.std.proofs.Common.{◌≡◌, ℕ, List, filter}
 use Rattle.std.specs.Option.{option_map, option_or}
-use Rattle.t1_parts.specs.Items.{stands_alone}
+use Rattle.t1_parts.specs.Stretches.{stands_alone}
 use Rattle.t1_run.specs.Run.{Subr, Glyph}
 use Rattle.t1_font.specs.Bodies.{bodies_check, subr_among, glyph_among}
 use Rattle.t1_charstrings.specs.Entries.{encrypted, glyph_charstring, subr_charstring}

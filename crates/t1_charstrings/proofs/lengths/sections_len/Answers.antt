@@ -1,5 +1,5 @@
 use Rattle.std.proofs.Common.{rules, ◌≡◌, List, ℕ, [], filter, length, ap, arith}
-use Rattle.t1_parts.specs.Items.{stands_alone}
+use Rattle.t1_parts.specs.Stretches.{stands_alone}
 use Rattle.t1_charstrings.specs.Sums.{section_lines_text}
 use Rattle.t1_charstrings.proofs.SectionFrontLaws.{sections_front}
 use Rattle.t1_charstrings.proofs.lengths.sections_len.Goals as goal

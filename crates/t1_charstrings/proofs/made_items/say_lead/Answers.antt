@@ -1,7 +1,7 @@
 use Rattle.std.proofs.Common.{◌∙◌, ap, filter, rules, tests}
 use Rattle.std.proofs.lemmas.Iterator.Consumers.{YieldsList-from_first}
 use Rattle.std.proofs.lemmas.Iterator.Search.{any_from_yields_List}
-use Rattle.t1_parts.specs.Items.{stands_alone}
+use Rattle.t1_parts.specs.Stretches.{stands_alone}
 use Rattle.t1_parts.specs.LenIV.{says_lead}
 use Rattle.t1_charstrings.proofs.AloneLaws.{say_alone}
 use Rattle.t1_charstrings.proofs.made_items.say_lead.Goals as goal

@@ -1,5 +1,5 @@
 use Rattle.std.proofs.Common.{◌≡◌, filter}
-use Rattle.t1_parts.specs.Items.{stands_alone}
+use Rattle.t1_parts.specs.Stretches.{stands_alone}
 use Rattle.t1_charstrings.specs.Raising.{raised_check}
 use Rattle.t1_charstrings.proofs.raising.check_raised.Given as goal
 

@@ -1,5 +1,5 @@
 use Rattle.std.proofs.Common.{rules, ◌≡◌, List, ℕ, [], filter, length, ap, arith}
-use Rattle.t1_parts.specs.Items.{stands_alone}
+use Rattle.t1_parts.specs.Stretches.{stands_alone}
 use Rattle.t1_charstrings.specs.Raising.{raised_text}
 use Rattle.t1_charstrings.proofs.SectionFrontLaws.{raised_sections_front}
 use Rattle.t1_charstrings.proofs.raising.raised_sections_len.Goals as goal

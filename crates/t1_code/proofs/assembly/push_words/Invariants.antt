@@ -1,7 +1,7 @@
 use Rattle.std.proofs.Common.{◌≡◌, length, take}
 use Rattle.t1_frac.specs.Words.{words}
 use Rattle.t1_code.specs.Words.{commands_of_words}
-use Rattle.t1_code.specs.Charstring.{charstring_onto}
+use Rattle.t1_code.specs.Appending.{charstring_onto}
 use Rattle.t1_code.proofs.assembly.push_words.Given as goal
 
 -- the code so far, and that of the words that are left

@@ -1,5 +1,5 @@
 use Rattle.std.proofs.Common.{length}
-use Rattle.t1_code.specs.Counted.{outlet}
+use Rattle.t1_code.specs.Writing.{outlet}
 use Rattle.t1_code.proofs.Writing.{passing, Written}
 use Rattle.t1_code.proofs.chunk.put_in_turns.Given as goal
 

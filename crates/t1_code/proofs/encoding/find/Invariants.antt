@@ -1,5 +1,5 @@
 use Rattle.std.proofs.Common.{◌≡◌, drop}
-use Rattle.t1_code.specs.Encoding.{named_in}
+use Rattle.t1_code.specs.EncodingRows.{named_in}
 use Rattle.t1_code.proofs.encoding.find.Given as goal
 
 -- no row so far has the code

@@ -1,5 +1,5 @@
 use Rattle.std.proofs.Common.{◌≡◌, drop}
-use Rattle.t1_code.specs.Encoding.{has_name}
+use Rattle.t1_code.specs.EncodingRows.{has_name}
 use Rattle.t1_code.proofs.encoding.is_among.Given as goal
 
 -- no row so far has the name

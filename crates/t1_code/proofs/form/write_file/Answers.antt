@@ -1,4 +1,4 @@
-use Rattle.t1_code.specs.Counted.{outlet}
+use Rattle.t1_code.specs.Writing.{outlet}
 use Rattle.t1_code.specs.Parts.{PassesFile, pieces_text}
 use Rattle.t1_code.proofs.Writing.{File-sent, File-unsent}
 use Rattle.t1_code.proofs.form.write_file.Goals as goal

@@ -1,4 +1,4 @@
-use Rattle.t1_code.specs.Words.{first_word}
+use Rattle.t1_code.specs.FoundCommands.{first_word}
 use Rattle.t1_code.proofs.Scanning.{no_number_named, past_named}
 use Rattle.t1_code.proofs.words.frequent_command.Goals as goal
 

@@ -1,6 +1,7 @@
 use Rattle.std.proofs.Common.{◌≡◌, length, take}
 use Rattle.t1_frac.specs.Words.{words}
-use Rattle.t1_code.specs.Words.{after_others, commands_of_words}
+use Rattle.t1_code.specs.Words.{commands_of_words}
+use Rattle.t1_code.specs.FoundCommands.{after_others}
 use Rattle.t1_code.proofs.words.read_words.Given as goal
 
 -- the commands so far stand in front of those of the words that are left, and the first ones first of all

@@ -1,5 +1,5 @@
 use Rattle.std.proofs.lemmas.Result.{err_from_is_err_and}
-use Rattle.t1_code.specs.Counted.{outlet}
+use Rattle.t1_code.specs.Writing.{outlet}
 use Rattle.t1_code.specs.Parts.{pieces_text}
 use Rattle.t1_commands.proofs.Framed.{all_passes, end_fails, file_fails, head_fails}
 use Rattle.t1_commands.proofs.data.put_data.Goals as goal

@@ -1,6 +1,6 @@
 use Rattle.std.proofs.Common.{◌≡◌, ℕ, List, [], ◌++◌, take, false, Ok, sym, ap, ◌∙◌, rules}
 use Rattle.std.proofs.lemmas.List.{nil_from_length}
-use Rattle.t1_disassemble.specs.Outcome.{reported_at}
+use Rattle.t1_disassemble.specs.Outcome.{font_reported_at}
 use Rattle.t1_disassemble.specs.declared.fault.FontPlace.TheVariants.{Nowhere}
 use Rattle.t1_disassemble.specs.Words.{words_of, printed_words}
 use Rattle.t1_disassemble.specs.WordsOnto.{words_onto}
@@ -17,4 +17,4 @@ returns c =
     sym c.loop-first.invariant.0 ∙ ap (λ (r : List ℕ). words_onto before c.loop-first.is_open (words_of r)) nothing ∙ push_none _ _
     ∙ ap (λ (l : List ℕ). Ok (l ++ printed_words c.loop-first.is_open [])) (sym sent) ∙ ap Ok (sym ended)
     in
-    ap (reported_at Nowhere) all
+    ap (font_reported_at Nowhere) all

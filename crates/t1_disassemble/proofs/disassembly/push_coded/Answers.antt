@@ -2,7 +2,7 @@ use Rattle.std.proofs.Common.{◌≡◌, false, ◌<◌, ◌++◌, List, ℕ, Re
 use Rattle.t1_disassemble.specs.declared.fault.FontFault.{FontFault}
 use Rattle.t1_disassemble.specs.Digits.{is_hexadecimal}
 use Rattle.t1_disassemble.specs.Front.{past_spaces}
-use Rattle.t1_disassemble.specs.Outcome.{Gives}
+use Rattle.t1_disassemble.specs.Outcome.{GivesFont}
 use Rattle.t1_disassemble.proofs.BinaryLaws.{coded_in_segments}
 use Rattle.t1_disassemble.proofs.disassembly.push_coded.Goals as goal
 
@@ -14,4 +14,4 @@ returns-then-is_binary c =
     let binary : is_hexadecimal coded ≡ false = search rules in
     let some : 0 < length coded = search rules in
     let same = coded_in_segments c.args.text.now.items c.args.clear.now after coded c.args.tail.now place binary some in
-    subst (λ (g : Result (List ℕ) FontFault). Gives (λ _. c.push_binary.new.text.items) c.push_binary.result g) (sym same) c.push_binary.ensures
+    subst (λ (g : Result (List ℕ) FontFault). GivesFont (λ _. c.push_binary.new.text.items) c.push_binary.result g) (sym same) c.push_binary.ensures

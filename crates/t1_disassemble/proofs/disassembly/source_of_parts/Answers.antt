@@ -4,7 +4,7 @@ use Rattle.t1_disassemble.specs.declared.fault.FontFault.{FontFault}
 use Rattle.t1_disassemble.specs.Disassembly.{source_of}
 use Rattle.t1_disassemble.specs.Front.{after_eexec, before_rest, past_spaces}
 use Rattle.t1_disassemble.specs.Kinds.{plain_kind}
-use Rattle.t1_disassemble.specs.Outcome.{Gives}
+use Rattle.t1_disassemble.specs.Outcome.{GivesFont}
 use Rattle.t1_disassemble.specs.SegmentsRead.{FontParts}
 use Rattle.t1_disassemble.specs.SourceOnto.{source_onto}
 use Rattle.t1_disassemble.proofs.WholeLaws.{kind_again}
@@ -19,7 +19,7 @@ returns-in_err-push_coded c =
     let before : before_rest parts.clear after ≡ front = search rules in
     let kind : plain_kind front ≡ Ok front = search rules in
     let same = ap (source_of parts) found ∙ kind_again parts after front before kind in
-    subst (λ (g : Result (List ℕ) FontFault). Gives (λ text. text.items) c.from_residual-in_err-push_coded.result g) (sym same) (search rules)
+    subst (λ (g : Result (List ℕ) FontFault). GivesFont (λ text. text.items) c.from_residual-in_err-push_coded.result g) (sym same) (search rules)
 
 pub returns : goal.returns
 returns c =

@@ -1,13 +1,13 @@
-use Rattle.t1_extent.specs.Exacts.{raw}
+use Rattle.t1_extent.specs.Exacts.{kept_number}
 use Rattle.t1_extent.proofs.Limited.{ceiling_limited, narrow, narrow_fits}
 use Rattle.t1_extent.proofs.extent.rounded_up.Goals as goal
 
 pub overflow_cast-result : goal.overflow_cast-result
 overflow_cast-result c =
     let side = c.args.side.now in
-    narrow_fits c.ceil.result _ c.ceil.ensures (ceiling_limited (raw side) side.above c.requires)
+    narrow_fits c.ceil.result _ c.ceil.ensures (ceiling_limited (kept_number side) side.above c.requires)
 
 pub returns : goal.returns
 returns c =
     let side = c.args.side.now in
-    narrow c.ceil.result _ c.ceil.ensures (ceiling_limited (raw side) side.above c.requires)
+    narrow c.ceil.result _ c.ceil.ensures (ceiling_limited (kept_number side) side.above c.requires)

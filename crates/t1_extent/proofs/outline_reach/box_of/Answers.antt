@@ -1,7 +1,8 @@
 use Rattle.std.proofs.Common.{ap, ◌∙◌, sym}
 use Rattle.std.specs.Prelude.{Ok}
 use Rattle.std.proofs.lemmas.Result.{err_from_is_err_and}
-use Rattle.t1_frac.specs.Outcome.{refusal, reported_at}
+use Rattle.t1_frac.specs.Outcome.{reported_at}
+use Rattle.t1_frac.specs.Refusals.{refusal}
 use Rattle.t1_frac.specs.declared.fault.Place.TheVariants.{Nowhere}
 use Rattle.t1_run.specs.Composite.{outline_within}
 use Rattle.t1_extent.specs.Turns.{given_box}

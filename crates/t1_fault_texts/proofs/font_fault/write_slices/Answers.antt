@@ -1,5 +1,5 @@
 use Rattle.std.proofs.lemmas.Result.{err_from_is_err_and}
-use Rattle.t1_code.specs.Counted.{outlet}
+use Rattle.t1_code.specs.Writing.{outlet}
 use Rattle.t1_code.specs.Parts.{slices_bytes}
 use Rattle.t1_code.proofs.Writing.{Puts-sent}
 use Rattle.t1_fault_texts.proofs.font_fault.write_slices.Goals as goal

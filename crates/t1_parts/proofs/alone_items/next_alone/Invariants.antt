@@ -1,5 +1,6 @@
 use Rattle.std.proofs.Common.{◌≡◌, filter, length}
-use Rattle.t1_parts.specs.Items.{items_in, stands_alone}
+use Rattle.t1_parts.specs.Items.{items_in}
+use Rattle.t1_parts.specs.Stretches.{stands_alone}
 use Rattle.t1_parts.proofs.alone_items.next_alone.Given as goal
 
 -- none of the items passed stands alone

@@ -1,6 +1,6 @@
 use Rattle.std.proofs.Common.{◌≡◌, ◌+◌, ◌≤◌, filter, length}
 use Rattle.t1_parts.specs.Counts.{glyphs_needed}
-use Rattle.t1_parts.specs.Items.{stands_alone}
+use Rattle.t1_parts.specs.Stretches.{stands_alone}
 use Rattle.t1_parts.proofs.counts.glyphs_needed.Given as goal
 
 -- the glyphs so far, and those of the rest

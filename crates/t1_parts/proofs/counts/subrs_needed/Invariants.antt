@@ -1,6 +1,6 @@
 use Rattle.std.proofs.Common.{◌≡◌, filter, max}
 use Rattle.t1_parts.specs.Counts.{subrs_needed}
-use Rattle.t1_parts.specs.Items.{stands_alone}
+use Rattle.t1_parts.specs.Stretches.{stands_alone}
 use Rattle.t1_parts.proofs.counts.subrs_needed.Given as goal
 
 -- what was needed so far, and what the rest needs

@@ -1,4 +1,4 @@
-use Rattle.t1_parts.specs.Items.{IsCutAfter}
+use Rattle.t1_parts.specs.Stretches.{IsCutAfter}
 use Rattle.t1_parts.proofs.plain_lines.after_lines.Given as goal
 
 -- the rest is cut off after as many lines as turns

@@ -1,7 +1,7 @@
 use Rattle.std.proofs.Common.{length, take}
 use Rattle.t1_text.specs.Lines.{lines}
 use Rattle.t1_parts.specs.Entries.{has_numbered}
-use Rattle.t1_parts.specs.Items.{IsCutAfter}
+use Rattle.t1_parts.specs.Stretches.{IsCutAfter}
 use Rattle.t1_parts.specs.PlainRuns.{AreAmong}
 use Rattle.t1_parts.specs.Sections.{is_subrs_line, is_glyphs_line}
 use Rattle.t1_parts.proofs.private.past_plain.Given as goal

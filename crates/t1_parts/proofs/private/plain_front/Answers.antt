@@ -2,7 +2,7 @@ use Rattle.std.proofs.Common.{◌++◌, take, ap, length, sym, ◌∙◌, subst,
 use Rattle.std.proofs.lemmas.List.{length-take-le}
 use Rattle.t1_text.specs.Lines.{lines}
 use Rattle.t1_parts.specs.Entries.{has_numbered}
-use Rattle.t1_parts.specs.Items.{lines_say}
+use Rattle.t1_parts.specs.Stretches.{lines_say}
 use Rattle.t1_parts.specs.PlainRuns.{AreAmong}
 use Rattle.t1_parts.specs.Sections.{is_subrs_line, is_glyphs_line}
 use Rattle.t1_parts.proofs.PlainRunLaws.{among_silent}

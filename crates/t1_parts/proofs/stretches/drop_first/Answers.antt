@@ -1,5 +1,6 @@
 use Rattle.std.proofs.Common.{◌∙◌, ap, sym, subst, drop, length, arith}
-use Rattle.t1_parts.specs.Items.{items_in, stretch_items, AreSingle}
+use Rattle.t1_parts.specs.Items.{items_in, stretch_items}
+use Rattle.t1_parts.specs.Stretches.{AreSingle}
 use Rattle.t1_parts.specs.declared.stretch.Stretch.TheVariants.{Lines}
 use Rattle.t1_parts.proofs.SingleLaws.{single_at, single_removed}
 use Rattle.t1_parts.proofs.StretchLaws.{first_removed, first_dropped}

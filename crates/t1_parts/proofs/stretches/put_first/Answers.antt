@@ -1,5 +1,6 @@
 use Rattle.std.proofs.Common.{◌∙◌, ap, refl, sym, subst, length, arith}
-use Rattle.t1_parts.specs.Items.{items_in, stretch_items, AreSingle}
+use Rattle.t1_parts.specs.Items.{items_in, stretch_items}
+use Rattle.t1_parts.specs.Stretches.{AreSingle}
 use Rattle.t1_parts.specs.declared.stretch.Stretch.TheVariants.{One}
 use Rattle.t1_parts.proofs.SingleLaws.{single_inserted, single_set}
 use Rattle.t1_parts.proofs.StretchLaws.{first_put, put_past, first_alone}

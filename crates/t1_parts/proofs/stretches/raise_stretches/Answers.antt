@@ -1,6 +1,6 @@
 use Rattle.std.proofs.Common.{◌<◌, length, slice_set, ap, ◌∙◌, arith}
 use Rattle.std.proofs.lemmas.List.Edits.{map_over_more}
-use Rattle.t1_parts.specs.Items.{raised_stretch}
+use Rattle.t1_parts.specs.Stretches.{raised_stretch}
 use Rattle.t1_parts.proofs.stretches.raise_stretches.Goals as goal
 
 pub loop-index-preserved : goal.loop-index-preserved

@@ -1,5 +1,5 @@
 use Rattle.std.proofs.Common.{◌≡◌, ◌++◌, map, take, drop}
-use Rattle.t1_parts.specs.Items.{raised_stretch}
+use Rattle.t1_parts.specs.Stretches.{raised_stretch}
 use Rattle.t1_parts.proofs.stretches.raise_stretches.Given as goal
 
 -- the stretches in front of the place are raised

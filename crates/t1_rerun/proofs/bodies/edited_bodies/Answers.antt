@@ -2,7 +2,8 @@ use Rattle.std.proofs.Common.{◌≡◌, ◌∙◌, ◌+◌, [], ◌∷◌, ap, 
 use Rattle.std.proofs.lemmas.List.{drop_all}
 use Rattle.std.specs.Option.{option_or}
 use Rattle.t1_run.specs.Overlay.{after_change}
-use Rattle.t1_run.specs.Run.{Subr, Glyph, body_at}
+use Rattle.t1_run.specs.Run.{Subr, Glyph}
+use Rattle.t1_run.specs.RunKeys.{body_at}
 use Rattle.t1_font.proofs.Compiling.{or-assoc, or-none}
 use Rattle.t1_cache.specs.Bodies.{glyph_body, record_bodies, subr_body}
 use Rattle.t1_font.proofs.Keys.{at-key}

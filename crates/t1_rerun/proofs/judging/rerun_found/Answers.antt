@@ -8,7 +8,7 @@ use Rattle.t1_cache.specs.Renewed.{recorded_run}
 use Rattle.std.proofs.lemmas.Result.{err_from_is_err_and}
 use Rattle.t1_run.specs.Run.{font}
 use Rattle.t1_font.specs.Bodies.{bodies}
-use Rattle.t1_cache.specs.Users.{has_name}
+use Rattle.t1_cache.specs.Users.{is_name_among}
 use Rattle.t1_cache.specs.EditKeys.{key_of}
 use Rattle.t1_cache.specs.Edited.{stale}
 use Rattle.std.specs.List.{AllByRecursion, list_any}
@@ -51,7 +51,7 @@ returns-in_err-runs-clause-checked g c = λ old new e.
     let is = ap (map (λ name. name.now)) c.deref.ensures.value ∙ c.in_ok-stale.ensures
     ∙ ap (λ l. filter (λ x. is_some (m.glyphs x)) (map (λ name. name.now) l)) c.as_slice.ensures.keys in
     let names = g.O.GlyphOrder.ordered c.args.order.now in
-    let found = has_name (λ name. name.now) keys in
+    let found = is_name_among (λ name. name.now) keys in
     let reached = c.requires.stale (bodies old.items) e.right.users in
     let are = those-are m.glyphs keys these is in
     let p = err_from_is_err_and c.from_residual-in_err-runs.result c.from_residual-in_err-runs.ensures.1 in
@@ -65,7 +65,7 @@ returns-in_err-runs-clause-counted g c = λ old new e.
     let is = ap (map (λ name. name.now)) c.deref.ensures.value ∙ c.in_ok-stale.ensures
     ∙ ap (λ l. filter (λ x. is_some (m.glyphs x)) (map (λ name. name.now) l)) c.as_slice.ensures.keys in
     let names = g.O.GlyphOrder.ordered c.args.order.now in
-    let found = has_name (λ name. name.now) keys in
+    let found = is_name_among (λ name. name.now) keys in
     let reached = c.requires.stale (bodies old.items) e.right.users in
     let are = those-are m.glyphs keys these is in
     let equal = sym (length-map (λ name. name.now) c.deref.result.now)
@@ -82,7 +82,7 @@ returns-in_err-renewal_of-clause-counted g c = λ old new e.
     let is = ap (map (λ name. name.now)) c.deref.ensures.value ∙ c.in_ok-stale.ensures
     ∙ ap (λ l. filter (λ x. is_some (m.glyphs x)) (map (λ name. name.now) l)) c.as_slice.ensures.keys in
     let names = g.O.GlyphOrder.ordered c.args.order.now in
-    let found = has_name (λ name. name.now) keys in
+    let found = is_name_among (λ name. name.now) keys in
     let reached = c.requires.stale (bodies old.items) e.right.users in
     let are = those-are m.glyphs keys these is in
     let equal = sym (length-map (λ name. name.now) c.deref.result.now)
@@ -99,7 +99,7 @@ returns-clause-checked g c = λ old new e.
     let is = ap (map (λ name. name.now)) c.deref.ensures.value ∙ c.in_ok-stale.ensures
     ∙ ap (λ l. filter (λ x. is_some (m.glyphs x)) (map (λ name. name.now) l)) c.as_slice.ensures.keys in
     let names = g.O.GlyphOrder.ordered c.args.order.now in
-    let found = has_name (λ name. name.now) keys in
+    let found = is_name_among (λ name. name.now) keys in
     let reached = c.requires.stale (bodies old.items) e.right.users in
     let are = those-are m.glyphs keys these is in
     no-fault c.args.edits.now old new c.args.records.now m names e found reached these are c.in_ok-runs.metrics.items c.in_ok-runs.ensures.reported
@@ -112,7 +112,7 @@ returns-clause-renewal g c = λ old new e.
     let is = ap (map (λ name. name.now)) c.deref.ensures.value ∙ c.in_ok-stale.ensures
     ∙ ap (λ l. filter (λ x. is_some (m.glyphs x)) (map (λ name. name.now) l)) c.as_slice.ensures.keys in
     let names = g.O.GlyphOrder.ordered c.args.order.now in
-    let found = has_name (λ name. name.now) keys in
+    let found = is_name_among (λ name. name.now) keys in
     let reached = c.requires.stale (bodies old.items) e.right.users in
     let are = those-are m.glyphs keys these is in
     let runs = c.in_ok-runs.runs in
@@ -121,7 +121,7 @@ returns-clause-renewal g c = λ old new e.
     c.in_ok-runs.metrics.items c.in_ok-runs.ensures.reported runs c.in_ok-runs.ensures.kept c.in_ok-runs.ensures.traced renewal
     (subst (λ ms. AllByRecursion (IsMeasuredRerun runs ms) renewal.reruns.items) c.deref-3.ensures.value c.in_ok-renewal_of.ensures.each)
     (λ x. c.in_ok-renewal_of.ensures.names x ∙ ap (list_any (λ y. bytes_eq x y.name)) c.deref-3.ensures.value)
-    (λ k u. c.in_ok-renewal_of.ensures.leaves k u ∙ ap (λ l. has_name (λ name. name.now) l u && is_user k (recorded_run c.args.records.now u)) c.as_slice-2.ensures.keys)
+    (λ k u. c.in_ok-renewal_of.ensures.leaves k u ∙ ap (λ l. is_name_among (λ name. name.now) l u && is_user k (recorded_run c.args.records.now u)) c.as_slice-2.ensures.keys)
     (λ k u. c.in_ok-renewal_of.ensures.joins k u
     ∙ ap (λ b. b && is_user k (run_of runs u)) (has-names c.deref-2.result.now u
     ∙ ap (list_any (bytes_eq u)) (ap (map (λ name. name.now)) (c.deref-2.ensures.value ∙ sym c.deref.ensures.value))))
@@ -142,7 +142,7 @@ returns-clause-counted g c = λ old new e.
     let is = ap (map (λ name. name.now)) c.deref.ensures.value ∙ c.in_ok-stale.ensures
     ∙ ap (λ l. filter (λ x. is_some (m.glyphs x)) (map (λ name. name.now) l)) c.as_slice.ensures.keys in
     let names = g.O.GlyphOrder.ordered c.args.order.now in
-    let found = has_name (λ name. name.now) keys in
+    let found = is_name_among (λ name. name.now) keys in
     let reached = c.requires.stale (bodies old.items) e.right.users in
     let are = those-are m.glyphs keys these is in
     let equal = sym (length-map (λ name. name.now) c.deref.result.now)

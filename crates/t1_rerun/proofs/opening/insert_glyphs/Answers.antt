@@ -2,7 +2,8 @@ use Rattle.std.proofs.Common.{◌∙◌, ap, arith, cond, map, subst, sym, None,
 use Rattle.std.specs.Prelude.{◌++◌, ◌∷◌, []}
 use Rattle.std.proofs.lemmas.List.{take_all}
 use Rattle.std.specs.Str.{bytes_eq}
-use Rattle.t1_run.specs.Run.{Glyph, body_at}
+use Rattle.t1_run.specs.Run.{Glyph}
+use Rattle.t1_run.specs.RunKeys.{body_at}
 use Rattle.t1_font.specs.KeptBodies.{glyph_body_kept}
 use Rattle.t1_font.specs.Runs.{run_kept}
 use Rattle.t1_cache.specs.Bodies.{record_bodies}

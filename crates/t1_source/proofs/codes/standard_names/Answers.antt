@@ -1,6 +1,6 @@
 use Rattle.std.proofs.Common.{◌≡◌, ◌∙◌, None, drop, option_map, ap, sym, refl, arith}
 use Rattle.std.proofs.lemmas.List.{drop_all, get_or-replicate}
-use Rattle.t1_code.specs.Encoding.{named_in}
+use Rattle.t1_code.specs.EncodingRows.{named_in}
 use Rattle.t1_source.proofs.CodeLaws.{named_standard}
 use Rattle.t1_source.proofs.codes.standard_names.Goals as goal
 

@@ -1,5 +1,5 @@
 use Rattle.std.proofs.Common.{◌≡◌, ℕ, ◌<◌, ◌≤◌, length, drop}
-use Rattle.t1_code.specs.Encoding.{named_in}
+use Rattle.t1_code.specs.EncodingRows.{named_in}
 use Rattle.t1_source.specs.Codes.{name_at}
 use Rattle.t1_source.proofs.codes.standard_names.Given as goal
 

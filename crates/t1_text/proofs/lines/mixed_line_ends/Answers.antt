@@ -1,5 +1,6 @@
 use Rattle.std.proofs.Common.{◌≡◌, ◌+◌, ◌<◌, length, drop, sym, ◌∙◌, ap, subst, arith}
-use Rattle.t1_text.specs.Lines.{line_ends, after_end}
+use Rattle.t1_text.specs.Lines.{after_end}
+use Rattle.t1_text.specs.LineEnds.{line_ends}
 use Rattle.t1_text.proofs.EndLaws.{end_counted, end_gone, no_end}
 use Rattle.t1_text.proofs.lines.mixed_line_ends.Goals as goal
 

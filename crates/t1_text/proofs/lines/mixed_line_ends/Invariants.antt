@@ -1,5 +1,5 @@
 use Rattle.std.proofs.Common.{◌≡◌, ◌+◌, ◌≤◌, length}
-use Rattle.t1_text.specs.Lines.{line_ends}
+use Rattle.t1_text.specs.LineEnds.{line_ends}
 use Rattle.t1_text.proofs.LineLaws.{line_len}
 use Rattle.t1_text.proofs.lines.mixed_line_ends.Given as goal
 

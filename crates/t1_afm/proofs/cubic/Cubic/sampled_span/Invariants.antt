@@ -1,4 +1,5 @@
-use Rattle.t1_afm.specs.Points.{cubic_at, cubic_values}
+use Rattle.t1_afm.specs.Points.{cubic_at}
+use Rattle.t1_afm.specs.CubicValues.{cubic_values}
 use Rattle.t1_afm.specs.Spans.{span_of}
 use Rattle.t1_afm.proofs.Spans.{Spans}
 use Rattle.t1_afm.proofs.cubic.Cubic.sampled_span.Given as goal

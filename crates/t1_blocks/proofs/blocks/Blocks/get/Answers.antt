@@ -1,7 +1,7 @@
 use Rattle.std.proofs.Common.{ap, sym, subst, length, ◌∙◌, arith}
 use Rattle.std.specs.List.{slice_index_or}
 use Rattle.std.proofs.lemmas.List.{get_or_read}
-use Rattle.t1_blocks.specs.Blocks.{IsPlace}
+use Rattle.t1_blocks.specs.BlockPlaces.{IsPlaceInBlocks}
 use Rattle.t1_blocks.proofs.JoinLaws.{element_at, within}
 use Rattle.t1_blocks.proofs.blocks.Blocks.get.Goals as goal
 
@@ -9,7 +9,7 @@ pub returns : goal.returns
 returns g c d =
     let bs = c.self.inside.blocks.items in
     let p = c.place_of-index.result in
-    let place : IsPlace c.args.at bs p = subst (λ xs. IsPlace c.args.at xs p) c.as_slice.ensures.value c.place_of-index.ensures in
+    let place : IsPlaceInBlocks c.args.at bs p = subst (λ xs. IsPlaceInBlocks c.args.at xs p) c.as_slice.ensures.value c.place_of-index.ensures in
     let inside = within c.args.at bs p c.index.result.now place c.index.ensures in
     let same = ap length c.as_slice-2.ensures.value in
     ap (λ xs. slice_index_or xs c.args.at d) (sym c.self.view_is)

@@ -1,12 +1,12 @@
 use Rattle.std.proofs.Common.{ap, length, ◌∙◌, arith}
 use Rattle.std.specs.List.{remove}
 use Rattle.std.proofs.lemmas.List.Edits.{length-remove}
-use Rattle.t1_blocks.specs.Blocks.{joined}
+use Rattle.t1_blocks.specs.Blocks.{blocks_joined}
 use Rattle.t1_blocks.proofs.blocks.Blocks.remove.Goals as goal
 
 pub invariant_of-self : goal.invariant_of-self
 invariant_of-self g c =
-    let xs = joined c.self.inside.blocks.items in
+    let xs = blocks_joined c.self.inside.blocks.items in
     let view = ap length c.self.view_is in
     let less = length-remove xs c.args.at (omega (arith, view, c.requires)) in
     let size = ap length c.remove.ensures in

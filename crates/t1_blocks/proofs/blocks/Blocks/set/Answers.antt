@@ -1,11 +1,11 @@
 use Rattle.std.proofs.Common.{ap, sym, length, ◌∙◌}
 use Rattle.std.specs.List.{slice_set}
 use Rattle.std.proofs.lemmas.List.{length-set}
-use Rattle.t1_blocks.specs.Blocks.{joined}
+use Rattle.t1_blocks.specs.Blocks.{blocks_joined}
 use Rattle.t1_blocks.proofs.blocks.Blocks.set.Goals as goal
 
 pub invariant_of-self : goal.invariant_of-self
-invariant_of-self g c = c.self.invariant ∙ sym (ap length c.set.ensures ∙ length-set (joined c.self.inside.blocks.items) c.args.at c.args.element)
+invariant_of-self g c = c.self.invariant ∙ sym (ap length c.set.ensures ∙ length-set (blocks_joined c.self.inside.blocks.items) c.args.at c.args.element)
 
 pub returns : goal.returns
 returns g c = c.set.ensures ∙ ap (λ xs. slice_set xs c.args.at c.args.element) c.self.view_is

@@ -1,5 +1,6 @@
 use Rattle.std.proofs.Common.{◌≡◌, cond, refl, None}
-use Rattle.t1_run.specs.Run.{Glyph, key_eq}
+use Rattle.t1_run.specs.Run.{Glyph}
+use Rattle.t1_run.specs.RunKeys.{key_eq}
 use Rattle.t1_charstrings.specs.declared.entries.Charstrings.{Charstrings}
 use Rattle.t1_charstrings.specs.Kept.{charstring_at}
 use Rattle.t1_charstrings.proofs.Batches.{taken-at}

@@ -1,7 +1,7 @@
 use Rattle.std.proofs.Common.{◌≡◌, ◌++◌, refl, sym, ap, ◌∙◌}
 use Rattle.std.proofs.lemmas.List.{take-append-drop}
 use Rattle.std.proofs.lemmas.Result.{err_from_is_err_and}
-use Rattle.t1_code.specs.Counted.{outlet}
+use Rattle.t1_code.specs.Writing.{outlet}
 use Rattle.t1_code.specs.Eexec.{EexecState, enciphered, state_after}
 use Rattle.t1_code.proofs.Carrying.{Carried-none, Carried-step, Carried-fails, Carried-all, Carried-end}
 use Rattle.t1_code.proofs.Enciphering.{enciphering, none_enciphered, state_stays}

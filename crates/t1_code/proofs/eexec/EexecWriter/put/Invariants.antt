@@ -1,5 +1,5 @@
 use Rattle.std.proofs.Common.{length}
-use Rattle.t1_code.specs.Counted.{outlet}
+use Rattle.t1_code.specs.Writing.{outlet}
 use Rattle.t1_code.proofs.Carrying.{Carried}
 use Rattle.t1_code.proofs.Enciphering.{enciphering}
 use Rattle.t1_code.proofs.eexec.EexecWriter.put.Given as goal

@@ -1,7 +1,7 @@
 use Rattle.std.proofs.Common.{◌<◌, ◌∙◌, length, drop, refl, ap, arith, []}
 use Rattle.std.proofs.lemmas.List.{drop_all}
 use Rattle.std.proofs.lemmas.Result.{err_from_is_err_and}
-use Rattle.t1_code.specs.Counted.{outlet}
+use Rattle.t1_code.specs.Writing.{outlet}
 use Rattle.t1_code.specs.Eexec.{enciphered, state_after}
 use Rattle.t1_code.specs.Parts.{slices_bytes}
 use Rattle.t1_code.proofs.Carrying.{Carried-all, Carried-end, Carried-turn, Carried-turn-fails}

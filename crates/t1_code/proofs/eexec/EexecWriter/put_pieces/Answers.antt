@@ -2,7 +2,7 @@ use Rattle.std.proofs.Common.{◌≡◌, ◌<◌, ◌++◌, length, drop, refl, 
 use Rattle.std.specs.List.{flat_map}
 use Rattle.std.proofs.lemmas.List.{drop_all}
 use Rattle.std.proofs.lemmas.Result.{err_from_is_err_and}
-use Rattle.t1_code.specs.Counted.{outlet}
+use Rattle.t1_code.specs.Writing.{outlet}
 use Rattle.t1_code.specs.Parts.{slices_bytes, piece_text}
 use Rattle.t1_code.specs.declared.parts.Piece.TheVariants.{Plain}
 use Rattle.t1_code.proofs.Carrying.{Carried-step, Carried-fails, Carried-turn, Carried-turn-fails}

@@ -1,6 +1,6 @@
 use Rattle.std.proofs.Common.{◌++◌, drop}
 use Rattle.std.specs.List.{flat_map}
-use Rattle.t1_code.specs.Counted.{outlet}
+use Rattle.t1_code.specs.Writing.{outlet}
 use Rattle.t1_code.specs.Parts.{piece_text}
 use Rattle.t1_code.proofs.Carrying.{Carried}
 use Rattle.t1_code.proofs.Enciphering.{enciphering}

@@ -1,6 +1,6 @@
 use Rattle.std.proofs.Common.{[], ◌∷◌, List, ℕ, subst}
 use Rattle.std.proofs.lemmas.Result.{err_from_is_err_and}
-use Rattle.t1_code.specs.Counted.{Passes, Stops, outlet}
+use Rattle.t1_code.specs.Writing.{Passes, Stops, outlet}
 use Rattle.t1_code.proofs.Digits.{no_end, end_given}
 use Rattle.t1_code.proofs.Writing.{passing}
 use Rattle.t1_code.proofs.hexadecimal.HexLines.end_full.Goals as goal

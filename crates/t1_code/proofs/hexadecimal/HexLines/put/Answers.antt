@@ -1,7 +1,7 @@
 use Rattle.std.proofs.Common.{◌+◌, [], ◌∷◌, get_or, drop, ap, arith}
 use Rattle.std.proofs.lemmas.List.{drop_all, drop_more}
 use Rattle.std.proofs.lemmas.Result.{err_from_is_err_and}
-use Rattle.t1_code.specs.Counted.{outlet}
+use Rattle.t1_code.specs.Writing.{outlet}
 use Rattle.t1_code.specs.Hexadecimal.{in_lines, room_after}
 use Rattle.t1_code.proofs.Carrying.{Carried-none, Carried-step, Carried-fails, Carried-all, Carried-end}
 use Rattle.t1_code.proofs.Digits.{lining}

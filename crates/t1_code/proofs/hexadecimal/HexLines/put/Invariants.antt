@@ -1,5 +1,5 @@
 use Rattle.std.proofs.Common.{drop}
-use Rattle.t1_code.specs.Counted.{outlet}
+use Rattle.t1_code.specs.Writing.{outlet}
 use Rattle.t1_code.proofs.Carrying.{Carried}
 use Rattle.t1_code.proofs.Digits.{lining}
 use Rattle.t1_code.proofs.hexadecimal.HexLines.put.Given as goal

@@ -1,6 +1,6 @@
 use Rattle.std.proofs.Common.{◌≡◌, ◌≤◌, ◌<◌, ◌∙◌, List, ℕ, min, refl, ap, subst, arith}
 use Rattle.std.proofs.lemmas.Result.{err_from_is_err_and}
-use Rattle.t1_code.specs.Counted.{Passes, Stops, outlet}
+use Rattle.t1_code.specs.Writing.{Passes, Stops, outlet}
 use Rattle.t1_code.proofs.Segmenting.{no_head, head_given, start_given}
 use Rattle.t1_code.proofs.Writing.{passing}
 use Rattle.t1_code.proofs.segments.Segmenter.open.Goals as goal

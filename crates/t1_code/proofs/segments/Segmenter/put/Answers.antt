@@ -1,7 +1,7 @@
 use Rattle.std.proofs.Common.{◌≡◌, ◌∙◌, ◌++◌, ◌<◌, ◌≤◌, length, refl, sym, ap, arith}
 use Rattle.std.proofs.lemmas.List.{take-append-drop}
 use Rattle.std.proofs.lemmas.Result.{err_from_is_err_and}
-use Rattle.t1_code.specs.Counted.{outlet}
+use Rattle.t1_code.specs.Writing.{outlet}
 use Rattle.t1_code.specs.Segments.{segment_opened, in_segments, segmenting_after}
 use Rattle.t1_code.proofs.Carrying.{Carried-none, Carried-all, Carried-end}
 use Rattle.t1_code.proofs.Segmenting.{cutting, some_of, room_opens, head_fails, front_fails, front_passes}

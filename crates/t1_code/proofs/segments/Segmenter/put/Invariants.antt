@@ -1,5 +1,5 @@
 use Rattle.std.proofs.Common.{length}
-use Rattle.t1_code.specs.Counted.{outlet}
+use Rattle.t1_code.specs.Writing.{outlet}
 use Rattle.t1_code.proofs.Carrying.{Carried}
 use Rattle.t1_code.proofs.Segmenting.{cutting}
 use Rattle.t1_code.proofs.segments.Segmenter.put.Given as goal

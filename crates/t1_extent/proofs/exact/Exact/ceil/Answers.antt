@@ -5,7 +5,7 @@ use mir.Syntax.{w64, w128}
 use mir.Val.{to_z, of_z}
 use Rattle.t1_afm.proofs.Longs.{read}
 use Rattle.t1_frac.specs.Fraction.{floor_of}
-use Rattle.t1_extent.specs.Exacts.{raw}
+use Rattle.t1_extent.specs.Exacts.{kept_number}
 use Rattle.t1_extent.proofs.Exacts.{ceiling_value}
 use Rattle.t1_extent.proofs.exact.Exact.ceil.Goals as goal
 
@@ -28,4 +28,4 @@ pub returns : goal.returns
 returns c =
     let a = c.args.self.now in
     turned c.floor_wide.result c.floor_wide.ensures.size ∙ ap neg_ℤ (c.floor_wide.ensures.value ∙ ap floor_of c.negated-negated.ensures)
-    ∙ sym (ceiling_value (raw a) a.above)
+    ∙ sym (ceiling_value (kept_number a) a.above)

@@ -5,7 +5,7 @@ use Rattle.std.proofs.lemmas.List.Elements.{All-filter, All-head, All-tail}
 use Rattle.std.specs.Option.{option_or}
 use Rattle.std.proofs.lemmas.Result.{err_from_is_err_and}
 use Rattle.t1_frac.specs.Outcome.{◌>>=◌, Refuses}
-use Rattle.t1_parts.specs.Items.{stands_alone}
+use Rattle.t1_parts.specs.Stretches.{stands_alone}
 use Rattle.t1_run.specs.Run.{own}
 use Rattle.t1_font.specs.Bodies.{bodies_check, body_check, subr_in, subr_among}
 use Rattle.t1_font.specs.Glyphs.{glyph_names, name_in}

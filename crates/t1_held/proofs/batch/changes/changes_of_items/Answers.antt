@@ -1,5 +1,5 @@
 use Rattle.std.proofs.Common.{◌∙◌, ap, filter, sym}
-use Rattle.t1_parts.specs.Items.{stands_alone}
+use Rattle.t1_parts.specs.Stretches.{stands_alone}
 use Rattle.t1_held.specs.Passing.{after_items, items_put, mark_at}
 use Rattle.t1_held.proofs.AloneLaws.{after_alone, none-in-front, put_alone}
 use Rattle.t1_held.proofs.Gathering.{after-more, in_front, item-more}

@@ -1,7 +1,8 @@
 use Rattle.std.proofs.Common.{◌∙◌, ap, refl, sym, subst, length, arith}
 use Rattle.std.specs.List.{insert}
 use Rattle.std.proofs.lemmas.List.Edits.{length-insert}
-use Rattle.t1_parts.specs.Items.{items_in, AreSingle}
+use Rattle.t1_parts.specs.Items.{items_in}
+use Rattle.t1_parts.specs.Stretches.{AreSingle}
 use Rattle.t1_parts.specs.EntryKeys.{AreSectionsBefore}
 use Rattle.t1_parts.specs.LenIV.{lead_among}
 use Rattle.t1_parts.specs.declared.stretch.Stretch.TheVariants.{One}

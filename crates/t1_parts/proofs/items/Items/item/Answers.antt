@@ -1,6 +1,7 @@
 use Rattle.std.proofs.Common.{◌<◌, ◌∙◌, ap, sym, subst, length, arith}
 use Rattle.std.specs.List.{slice_index_or}
-use Rattle.t1_parts.specs.Items.{IsPlace, stretch_items}
+use Rattle.t1_parts.specs.Items.{stretch_items}
+use Rattle.t1_parts.specs.Stretches.{IsPlaceOfItem}
 use Rattle.t1_parts.proofs.StretchLaws.{place_item, place_left}
 use Rattle.t1_parts.proofs.items.Items.item.Goals as goal
 
@@ -8,7 +9,7 @@ pub returns : goal.returns
 returns c d =
     let ss = c.self.inside.stretches.items in
     let p = c.place_of-index.result in
-    let place : IsPlace c.args.at ss p = subst (λ xs. IsPlace c.args.at xs p) c.as_slice.ensures.value c.place_of-index.ensures in
+    let place : IsPlaceOfItem c.args.at ss p = subst (λ xs. IsPlaceOfItem c.args.at xs p) c.as_slice.ensures.value c.place_of-index.ensures in
     let view = ap length c.self.view_is in
     let here : p.0 < length ss = place_left c.args.at ss p place (omega (arith, view, c.requires)) in
     let s = c.index-stretch.result.now in

@@ -1,6 +1,7 @@
 use Rattle.std.proofs.Common.{◌∙◌, ap, sym, subst, length, arith}
 use Rattle.std.proofs.lemmas.List.{length-append}
-use Rattle.t1_parts.specs.Items.{items_in, stretch_items, AreSingle}
+use Rattle.t1_parts.specs.Items.{items_in, stretch_items}
+use Rattle.t1_parts.specs.Stretches.{AreSingle}
 use Rattle.t1_parts.specs.EntryKeys.{AreSectionsBefore}
 use Rattle.t1_parts.specs.LenIV.{lead_among}
 use Rattle.t1_parts.proofs.LeadKeptLaws.{lead_pushed, none_said}

@@ -4,7 +4,8 @@ use Rattle.std.proofs.lemmas.Bool.{or_parts}
 use Rattle.std.proofs.lemmas.Result.{err_from_is_err_and}
 use Rattle.t1_parts.specs.declared.item.Item.TheVariants.{Plain}
 use Rattle.t1_parts.specs.ItemRefs.{item_of}
-use Rattle.t1_parts.specs.Items.{items_in, StandsAloneAt}
+use Rattle.t1_parts.specs.Items.{items_in}
+use Rattle.t1_parts.specs.Stretches.{StandsAloneAt}
 use Rattle.t1_parts.specs.EntryKeys.{AreSectionsBefore}
 use Rattle.t1_parts.specs.LenIV.{lead_among, says_lead}
 use Rattle.t1_parts.proofs.LeadKeptLaws.{lead_set}

@@ -1,6 +1,6 @@
 use Rattle.std.proofs.Common.{filter, ap, ◌∙◌}
 use Rattle.t1_text.specs.Lines.{lines}
-use Rattle.t1_parts.specs.Items.{stands_alone}
+use Rattle.t1_parts.specs.Stretches.{stands_alone}
 use Rattle.t1_parts.proofs.AloneLaws.{alone_between}
 use Rattle.t1_parts.proofs.items_iter.ItemsIter.alone.Goals as goal
 

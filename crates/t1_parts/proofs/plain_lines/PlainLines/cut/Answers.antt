@@ -1,7 +1,7 @@
 use Rattle.std.proofs.Common.{length, take, sym, ◌∙◌, ap, arith}
 use Rattle.std.proofs.lemmas.List.{length-take-le}
 use Rattle.t1_text.specs.Lines.{lines}
-use Rattle.t1_parts.specs.Items.{line_says, lines_say}
+use Rattle.t1_parts.specs.Stretches.{line_says, lines_say}
 use Rattle.t1_parts.proofs.RunCutLaws.{lines_before, none_in_front, none_behind}
 use Rattle.t1_parts.proofs.plain_lines.PlainLines.cut.Goals as goal
 

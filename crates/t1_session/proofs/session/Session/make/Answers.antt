@@ -6,7 +6,7 @@ use Rattle.t1_font.specs.SourceChecks.{source_check}
 use Rattle.t1_cache.specs.Recorded.{kept_of}
 use Rattle.t1_held.specs.declared.held.ReadyHeld.{ReadyHeld}
 use Rattle.t1_source.specs.declared.edit.Cause.{Cause}
-use Rattle.t1_source.specs.Changes.{changed, Serves}
+use Rattle.t1_source.specs.Changes.{changed, Suits}
 use Rattle.t1_source.specs.Editing.{edited}
 use Rattle.t1_session.specs.Machine.{judged}
 use Rattle.t1_session.specs.Unnoted.{Took}
@@ -19,7 +19,7 @@ pub prepare_edits-prepared-requires : goal.prepare_edits-prepared-requires
 prepare_edits-prepared-requires c =
     let s = c.self.inside in
     edit_prepared s.source s.pairs s.held c.args.edit.now c.args.change c.self.invariant.0 c.text_of_source_read.ensures
-    (subst (λ (v : SessionView). Serves c.args.change v.state.source v.state.pairs) (sym c.self.view_is) c.requires.serves)
+    (subst (λ (v : SessionView). Suits c.args.change v.state.source v.state.pairs) (sym c.self.view_is) c.requires.serves)
     (subst (λ (v : SessionView). edited v.state.source v.state.pairs c.args.edit.now ≡ Ok (changed c.args.change v.state.source v.state.pairs)) (sym c.self.view_is) c.requires.made)
 
 pub returns-in_err-commit-clause-runs : goal.returns-in_err-commit-clause-runs

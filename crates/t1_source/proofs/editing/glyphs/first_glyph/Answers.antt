@@ -2,7 +2,7 @@ use Rattle.std.proofs.Common.{◌∙◌, ap, filter, refl, rules, tests}
 use Rattle.std.proofs.lemmas.Iterator.Consumers.{YieldsList-from_first}
 use Rattle.std.proofs.lemmas.Iterator.Search.{find_from_yields_List}
 use Rattle.t1_parts.specs.Counts.{is_glyph_entry}
-use Rattle.t1_parts.specs.Items.{stands_alone}
+use Rattle.t1_parts.specs.Stretches.{stands_alone}
 use Rattle.t1_source.proofs.AloneSearchLaws.{find_alone}
 use Rattle.t1_source.proofs.editing.glyphs.first_glyph.Goals as goal
 

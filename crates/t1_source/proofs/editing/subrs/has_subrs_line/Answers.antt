@@ -2,7 +2,7 @@ use Rattle.std.proofs.Common.{◌∙◌, ap, filter, refl, rules, tests}
 use Rattle.std.proofs.lemmas.Iterator.Consumers.{YieldsList-from_first}
 use Rattle.std.proofs.lemmas.Iterator.Search.{any_from_yields_List}
 use Rattle.t1_parts.specs.Sections.{is_subrs_line}
-use Rattle.t1_parts.specs.Items.{stands_alone}
+use Rattle.t1_parts.specs.Stretches.{stands_alone}
 use Rattle.t1_source.proofs.AloneSearchLaws.{any_alone}
 use Rattle.t1_source.proofs.editing.subrs.has_subrs_line.Goals as goal
 

@@ -1,5 +1,5 @@
 use Rattle.std.proofs.Common.{sym, subst}
-use Rattle.t1_parts.specs.Items.{StandsAloneAt}
+use Rattle.t1_parts.specs.Stretches.{StandsAloneAt}
 use Rattle.t1_source.specs.WellFormed.{IsWellFormed}
 use Rattle.t1_source.proofs.ChangeLaws.{removed_seen, ok_holds}
 use Rattle.t1_source.proofs.source.Source.remove_item.Goals as goal
