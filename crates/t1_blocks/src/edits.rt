@@ -42,7 +42,8 @@ fn place_with_room<T: Drop>(
 /// Puts an element in the place of another.
 pub(crate) fn set<T: Drop>(blocks: &mut Vec<Block<T>>, at: usize, element: T)
     requires { at < length (blocks_joined blocks.old.items) }
-    ensures { blocks_joined blocks.new.items ≡ slice_set (blocks_joined blocks.old.items) at element }
+    ensures { blocks_joined blocks.new.items
+        ≡ slice_set (blocks_joined blocks.old.items) at element }
 {
     let (index, offset) = place_of(blocks.as_slice(), at);
     blocks[index].set(offset, element);
@@ -65,7 +66,8 @@ fn insert_before<T: Drop>(
 
 /// Adds an element at the end. Where memory runs out, the elements are the same.
 fn push<T: Drop>(alloc: Global, blocks: &mut Vec<Block<T>>, element: T) -> Result<(), AllocError>
-    ensures ok { OnOk result (blocks_joined blocks.new.items ≡ blocks_joined blocks.old.items ++ element ∷ []) }
+    ensures ok { OnOk result
+        (blocks_joined blocks.new.items ≡ blocks_joined blocks.old.items ++ element ∷ []) }
     ensures err { OnErr result (blocks_joined blocks.new.items ≡ blocks_joined blocks.old.items) }
 {
     let Some(last) = last_with_room(blocks.as_slice()) else {

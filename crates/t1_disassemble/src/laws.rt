@@ -19,7 +19,8 @@ ghost use Rattle.t1_disassemble.specs.Decipher.{deciphered, decrypted_charstring
 ghost use Rattle.t1_disassemble.specs.Decipher.{decrypted_private};
 ghost use Rattle.t1_disassemble.specs.Digits.{digit_bytes, after_digits};
 ghost use Rattle.t1_disassemble.specs.Disassembly.{disassembled};
-ghost use Rattle.t1_disassemble.specs.Laws.{blocks_bytes, raw_file, plain_item, items_text, IsBlock, IsEnd};
+ghost use Rattle.t1_disassemble.specs.Laws.{blocks_bytes, raw_file, plain_item, items_text};
+ghost use Rattle.t1_disassemble.specs.Laws.{IsBlock, IsEnd};
 ghost use Rattle.t1_disassemble.specs.Laws.{AreBytes, IsReadBack};
 ghost use Rattle.t1_disassemble.specs.SegmentsRead.{font_parts};
 ghost use Rattle.t1_disassemble.specs.Words.{words_of};
@@ -51,13 +52,19 @@ pub fn command_words_say_commands()
 /// The parts of a font come back from segments, however each part is cut, whether or not the file
 /// says its end.
 pub fn parts_come_back_from_segments()
-    ensures { (clear coded tail : List (List ℕ)) (end : List ℕ) → AllByRecursion IsBlock clear
-        → AllByRecursion IsBlock coded → AllByRecursion IsBlock tail
-        → 0 < length (blocks_bytes coded) → IsEnd end
-        → font_parts (flat_map (segment ascii_segment) clear
+    ensures { (clear coded tail : List (List ℕ)) (end : List ℕ)
+        → AllByRecursion IsBlock clear
+        → AllByRecursion IsBlock coded
+        → AllByRecursion IsBlock tail
+        → 0 < length (blocks_bytes coded)
+        → IsEnd end
+        → font_parts
+        (flat_map (segment ascii_segment) clear
         ++ (flat_map (segment binary_segment) coded
         ++ (flat_map (segment ascii_segment) tail ++ end)))
-        ≡ Ok (record { clear = blocks_bytes clear; coded = blocks_bytes coded; tail = blocks_bytes tail }) }
+        ≡ Ok
+        (record
+        { clear = blocks_bytes clear; coded = blocks_bytes coded; tail = blocks_bytes tail }) }
 {}
 
 /// The three parts of an assembled PFB file come back, whatever its blocks.

@@ -8,7 +8,8 @@ ghost use Rattle.t1_text.specs.Tokens.{places_from};
 ghost use Rattle.t1_parts.specs.Operator.{text_place, name_within, operator_on};
 ghost use Rattle.t1_parts.specs.Parts.{ends_in};
 ghost use Rattle.t1_parts.specs.Sections.{subrs_line, glyphs_line};
-ghost use Rattle.t1_disassemble.specs.Settings.{heads_section, undigited, ends_in_key, begins_section};
+ghost use Rattle.t1_disassemble.specs.Settings.{heads_section, undigited, ends_in_key};
+ghost use Rattle.t1_disassemble.specs.Settings.{begins_section};
 ghost use Rattle.t1_disassemble.specs.Settings.{opens_section, lead_said, reading_operator};
 ghost use Rattle.t1_disassemble.specs.Settings.{leading_bytes};
 

@@ -8,7 +8,8 @@ ghost use Rattle.std.specs.Str.{bytes_eq};
 ghost use Rattle.t1_font.specs.Glyphs.{glyph_names as names_of_glyphs};
 ghost use Rattle.t1_font.specs.Runs.{drawing_in};
 ghost use Rattle.t1_faults.specs.Composites.{faulty_under, faulty_within, is_chain_of};
-ghost use Rattle.t1_faults.specs.Composites.{is_place_of_glyph, names_glyph, with_composites, with_names};
+ghost use Rattle.t1_faults.specs.Composites.{is_place_of_glyph, names_glyph, with_composites};
+ghost use Rattle.t1_faults.specs.Composites.{with_names};
 ghost use Rattle.t1_faults.specs.GlyphRuns.{composites_kept, composites_on, each_numbered};
 ghost use Rattle.t1_faults.specs.GlyphRuns.{first_naming, is_number_met, number_kept};
 

@@ -160,8 +160,8 @@ impl<'a> Items<'a> {
         *lead
     }
 
-    /// What the Subrs ask of the section's count, which is kept: the highest number plus one, 0 where
-    /// there is none.
+    /// What the Subrs ask of the section's count, which is kept: the highest number plus one, 0
+    /// where there is none.
     pub fn subrs_needed(&self) -> u64
         ensures { result ≡ subrs_needed self.now }
     {

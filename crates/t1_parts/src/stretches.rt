@@ -199,8 +199,8 @@ pub(crate) fn put_first<'a>(
     Ok(())
 }
 
-/// How many stretches have the first items up to a place. Where each stretch is known to be one item
-/// none is looked at.
+/// How many stretches have the first items up to a place. Where each stretch is known to be one
+/// item none is looked at.
 pub(crate) fn stretches_to(stretches: &[Stretch], at: usize, are_single: bool) -> usize
     requires within { at ≤ length (items_in stretches.now) }
     requires single { are_single ≡ true → AreSingle stretches.now }
