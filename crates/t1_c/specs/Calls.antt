@@ -8,7 +8,7 @@ use Rattle.t1_session.specs.State.{SessionState}
 use Rattle.t1_fault_texts.specs.FontFaults.{font_fault_text}
 use Rattle.t1_calls.specs.Framing.{is_call}
 use Rattle.t1_calls.specs.Talking.{Turns}
-use Rattle.t1_c.specs.declared.kept.Kept.{Kept}
+use Rattle.t1_c.specs.declared.kept.HandleContents.{HandleContents}
 
 -- profile: a status that a call may answer
 abbrev pub is_status_among : List ℕ → ℕ → Bool
@@ -29,12 +29,12 @@ pub record NothingTold (old new : List ℕ) (before told : ℕ) : Type 0 where
   pub count : told ≡ before
 
 -- profile: a session is open in a state, and has performed no command yet
-abbrev pub IsIn : Option Kept → SessionState → Type 0
+abbrev pub IsIn : Option HandleContents → SessionState → Type 0
 IsIn None state = ⊥
 IsIn (Some kept) state = (kept.talk.state ≡ state) × (kept.talk.answer ≡ [])
 
 -- profile: a session was opened on what a definition gives
-abbrev pub Opens : Result SessionState Fault → Option Kept → Type 0
+abbrev pub Opens : Result SessionState Fault → Option HandleContents → Type 0
 Opens given held = (state : SessionState) × (given ≡ Ok state) × IsIn held state
 
 -- profile: what was to be made has this fault, and the buffer has its text
@@ -42,18 +42,18 @@ abbrev pub RefusesWithText : {X : Type 0} → Result X Fault → List ℕ → Li
 RefusesWithText given old new told = (fault : Fault) × (given ≡ Err fault) × Told (fault_text fault) old new told
 
 -- profile: the answer that an open session keeps
-abbrev pub answer_in : Option Kept → List ℕ
+abbrev pub answer_in : Option HandleContents → List ℕ
 answer_in None = []
 answer_in (Some kept) = kept.talk.answer
 
 -- profile: an open session performed the command that the texts of a call are
-abbrev pub IsTurned : Option Kept → Option Kept → List ℕ → List ℕ → Type 0
+abbrev pub IsTurned : Option HandleContents → Option HandleContents → List ℕ → List ℕ → Type 0
 IsTurned (Some was) (Some is) line body = Turns was.talk is.talk line body
 IsTurned (Some was) None line body = ⊥
 IsTurned None new line body = ⊥
 
 -- profile: nothing can be performed: there is no session, or the texts aren't one command's
-abbrev pub is_misuse : Option Kept → List ℕ → List ℕ → Bool
+abbrev pub is_misuse : Option HandleContents → List ℕ → List ℕ → Bool
 is_misuse held line body = is_none held || not (is_call line body)
 
 -- profile: a call that tells a file: the file at 0, the first fault at 1, and at 2 nothing, for want of memory

@@ -3,6 +3,6 @@ use t1_calls::Talk;
 
 /// A session.
 #[derive(Drop)]
-pub struct Kept {
+pub struct HandleContents {
     pub talk: Talk,
 }

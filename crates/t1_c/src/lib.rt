@@ -28,7 +28,7 @@ ghost use Rattle.t1_c.specs.Calls.{NothingTold, Opens, RefusesWithText, Told};
 
 use crate::delivering::{deliver, deliver_source, segment_length, tell_faults, tell_judgement};
 use crate::handle::Handle;
-use crate::kept::Kept;
+use crate::kept::HandleContents;
 use crate::status::{DONE, MEMORY, MISUSED, REFUSED};
 use crate::telling::{perform, tell_answer};
 use crate::texts::tell_fault;
@@ -72,7 +72,7 @@ pub extern "C" fn t1edit_open(
 {
     t1edit_close(alloc, at);
     match Talk::open(alloc, source, pairs) {
-        Ok(talk) => match Box::new(alloc, Kept { talk }) {
+        Ok(talk) => match Box::new(alloc, HandleContents { talk }) {
             Ok(kept) => {
                 *at = Handle::give(kept);
                 DONE

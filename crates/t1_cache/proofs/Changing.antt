@@ -15,7 +15,7 @@ use Rattle.t1_cache.specs.declared.records.GlyphRecord.{GlyphRecord}
 use Rattle.t1_cache.specs.declared.records.SubrRecord.{SubrRecord}
 use Rattle.t1_cache.specs.Bodies.{glyph_body, record_bodies, subr_body}
 use Rattle.t1_cache.specs.Changed.{ChangedBodiesLaw, RestLaw}
-use Rattle.t1_cache.specs.Recorded.{Kept, kept_of}
+use Rattle.t1_cache.specs.Recorded.{RecordedGlyph, kept_of}
 use Rattle.t1_cache.specs.Users.{among, glyph_rest, is_name_among, subr_rest, GlyphRest, HasUserRoom, SubrRest, UserSet}
 use Rattle.t1_font.proofs.Keys.{key-itself, key-same, at-same, same-at}
 use Rattle.t1_font.proofs.Keeping.{map-cond}
@@ -155,7 +155,7 @@ glyph-rests (e ∷ es) g = by (bytes_eq g e.0.items) (glyph-rests es g) where
   by true rest = refl
   by false rest = rest
 
-abbrev kept-rest : GlyphRest → Kept
+abbrev kept-rest : GlyphRest → RecordedGlyph
 kept-rest r = record { name = r.name; run = r.run; box = r.bbox }
 
 kept-rests : (es : List (Vec ℕ Global × GlyphRecord)) → map kept_of es ≡ map kept-rest (map glyph_rest es)

@@ -18,7 +18,7 @@ use Rattle.t1_cache.specs.Edited.{is_stale}
 use Rattle.t1_cache.specs.EditKeys.{subr_key}
 use Rattle.t1_cache.specs.Kept.{KeepsAll}
 use Rattle.t1_cache.specs.Renewal.{AreInPlace, KeptAfterLaw, KeptTurnLaw}
-use Rattle.t1_cache.specs.Recorded.{IsOneOf, Kept}
+use Rattle.t1_cache.specs.Recorded.{IsOneOf, RecordedGlyph}
 use Rattle.t1_cache.proofs.EditedNames.{names_edited}
 use Rattle.t1_cache.proofs.Judging.{unnamed}
 use Rattle.t1_font.proofs.Lookups.{bytes_tell}
@@ -27,15 +27,15 @@ use Rattle.t1_cache.proofs.Lists.{all-last}
 
 -- ---- lists of records
 
-all-one-of : (P : Kept → Type 0) (all xs : List Kept) → ((k : Kept) → IsOneOf xs k → IsOneOf all k) → AllByRecursion (λ k. P k → IsOneOf all k) xs
+all-one-of : (P : RecordedGlyph → Type 0) (all xs : List RecordedGlyph) → ((k : RecordedGlyph) → IsOneOf xs k → IsOneOf all k) → AllByRecursion (λ k. P k → IsOneOf all k) xs
 all-one-of P all [] among = tt
 all-one-of P all (x ∷ xs) among = ((λ p. among x (inl refl)), all-one-of P all xs (λ k i. among k (inr i)))
 
-pub names-last : (xs : List Kept) (k : Kept) → map (λ x. x.name) (xs ++ k ∷ []) ≡ map (λ x. x.name) xs ++ k.name ∷ []
+pub names-last : (xs : List RecordedGlyph) (k : RecordedGlyph) → map (λ x. x.name) (xs ++ k ∷ []) ≡ map (λ x. x.name) xs ++ k.name ∷ []
 names-last [] k = refl
 names-last (x ∷ xs) k = ap (λ l. x.name ∷ l) (names-last xs k)
 
-names-filtered : (g : List ℕ) (xs : List Kept) → map (λ x. x.name) (filter (λ k. not (bytes_eq g k.name)) xs) ≡ filter (λ name. not (bytes_eq g name)) (map (λ x. x.name) xs)
+names-filtered : (g : List ℕ) (xs : List RecordedGlyph) → map (λ x. x.name) (filter (λ k. not (bytes_eq g k.name)) xs) ≡ filter (λ name. not (bytes_eq g name)) (map (λ x. x.name) xs)
 names-filtered g [] = refl
 names-filtered g (x ∷ xs) = by (bytes_eq g x.name) (names-filtered g xs) where
   by : (b : Bool) → map (λ x. x.name) (filter (λ k. not (bytes_eq g k.name)) xs) ≡ filter (λ name. not (bytes_eq g name)) (map (λ x. x.name) xs)
@@ -79,12 +79,12 @@ fewer m ks ls g h = fewer-within m ks ls 4 g h
 
 -- ---- an edit more
 
-still-fresh : (s : SourceParts) (ks ls : List Key) (all xs : List Kept) → AllByRecursion (λ k. is_stale s ks k.name ≡ false → IsOneOf all k) xs
+still-fresh : (s : SourceParts) (ks ls : List Key) (all xs : List RecordedGlyph) → AllByRecursion (λ k. is_stale s ks k.name ≡ false → IsOneOf all k) xs
     → AllByRecursion (λ k. is_stale s (ks ++ ls) k.name ≡ false → IsOneOf all k) xs
 still-fresh s ks ls all [] h = tt
 still-fresh s ks ls all (x ∷ xs) h = ((λ off. h.0 (fewer (bodies s.items) ks ls x.name off)), still-fresh s ks ls all xs h.1)
 
-all-filtered : (Q : Kept → Type 0) (test : Kept → Bool) (xs : List Kept) → AllByRecursion Q xs → AllByRecursion Q (filter test xs)
+all-filtered : (Q : RecordedGlyph → Type 0) (test : RecordedGlyph → Bool) (xs : List RecordedGlyph) → AllByRecursion Q xs → AllByRecursion Q (filter test xs)
 all-filtered Q test [] h = tt
 all-filtered Q test (x ∷ xs) h = by (test x) (all-filtered Q test xs h.1) where
   by : (b : Bool) → AllByRecursion Q (filter test xs) → AllByRecursion Q (cond b (x ∷ filter test xs) (filter test xs))
@@ -150,7 +150,7 @@ turn_in_place keys old s k (Unkern first second) made ps well e kept before at r
 }
 
 -- those kept are in place before any edit
-kept-first : (s : SourceParts) (kept : List Kept) → KeepsAll s kept → AreInPlace [] s s kept kept
+kept-first : (s : SourceParts) (kept : List RecordedGlyph) → KeepsAll s kept → AreInPlace [] s s kept kept
 kept-first s kept keeps = record {
   order = names_kept s kept keeps;
   fresh = all-one-of (λ x. is_stale s [] x.name ≡ false) kept kept (λ x i. i);

@@ -20,7 +20,7 @@ use Rattle.t1_font.specs.SourceChecks.{source_glyphs}
 use Rattle.t1_run.proofs.Untouched.{untouched_kept}
 use Rattle.t1_cache.specs.Edited.{is_stale}
 use Rattle.t1_cache.specs.Kept.{without_serial, shown_from, KeptNamesLaw}
-use Rattle.t1_cache.specs.Recorded.{Kept, IsFromScratch, IsOneOf}
+use Rattle.t1_cache.specs.Recorded.{RecordedGlyph, IsFromScratch, IsOneOf}
 use Rattle.t1_cache.specs.Renewal.{IsRenewed, RenewalLaw}
 use Rattle.t1_cache.proofs.Lists.{all-weaken}
 use Rattle.t1_extent.proofs.Curves.{some_is}
@@ -80,7 +80,7 @@ reported-more m g names reported e = by (glyph_of g (own m g) (outline m g)) ref
 
 -- ---- records from scratch
 
-scratch-one : (m : FontBodies) (g : List ℕ) (t : Reported) (k : Kept) → ReportsOne m g t → without_serial k ≡ shown_from t → IsFromScratch m k
+scratch-one : (m : FontBodies) (g : List ℕ) (t : Reported) (k : RecordedGlyph) → ReportsOne m g t → without_serial k ≡ shown_from t → IsFromScratch m k
 scratch-one m g t k one e =
     let at : k.name ≡ g = ap (λ s. s.name) e ∙ sym one.name in
     record {
@@ -91,7 +91,7 @@ scratch-one m g t k one e =
       box = ap (λ s. s.box) e;
     }
 
-pub scratch-all : (m : FontBodies) (names : List (List ℕ)) (reported : List Reported) (kept : List Kept) → glyphs m names ≡ Ok reported → map without_serial kept ≡ map shown_from reported
+pub scratch-all : (m : FontBodies) (names : List (List ℕ)) (reported : List Reported) (kept : List RecordedGlyph) → glyphs m names ≡ Ok reported → map without_serial kept ≡ map shown_from reported
     → AllByRecursion (IsFromScratch m) kept
 scratch-all m names reported [] e same = tt
 scratch-all m [] reported (k ∷ kept) e same =
@@ -105,7 +105,7 @@ scratch-all m (g ∷ names) reported (k ∷ kept) e same =
       scratch-all m names more.1.0 kept more.1.1.1.0 (tails (without_serial k) (shown_from more.0) (map without_serial kept) (map shown_from more.1.0) both),
     )
 
-shown-one : (m : FontBodies) (g : List ℕ) (t : Reported) (k : Kept) → ReportsOne m g t → k.name ≡ g → IsFromScratch m k → without_serial k ≡ shown_from t
+shown-one : (m : FontBodies) (g : List ℕ) (t : Reported) (k : RecordedGlyph) → ReportsOne m g t → k.name ≡ g → IsFromScratch m k → without_serial k ≡ shown_from t
 shown-one m g t k one at is =
     let name : k.name ≡ t.name = at ∙ one.name in
     let drawing : k.run.drawing ≡ t.drawing = given (Ok k.run.drawing) k.run.drawing t.drawing refl (some_is (Ok k.run.drawing) (Ok t.drawing) (sym is.run ∙ ap (own m) at ∙ one.run)) in
@@ -113,7 +113,7 @@ shown-one m g t k one at is =
     let box : k.box ≡ drawn_box t.outline = is.box ∙ ap drawn_box draws in
     (λ j. record { name = name j; drawing = drawing j; keeps_trace = is.trace j; box = box j })
 
-pub shown-all : (m : FontBodies) (names : List (List ℕ)) (reported : List Reported) (records : List Kept) → glyphs m names ≡ Ok reported → map (λ k. k.name) records ≡ names
+pub shown-all : (m : FontBodies) (names : List (List ℕ)) (reported : List Reported) (records : List RecordedGlyph) → glyphs m names ≡ Ok reported → map (λ k. k.name) records ≡ names
     → AllByRecursion (IsFromScratch m) records → map without_serial records ≡ map shown_from reported
 shown-all m [] reported [] e order all = ap (map shown_from) (given (Ok []) [] reported refl e)
 shown-all m [] reported (k ∷ records) e order all = absurd (cc)
@@ -126,7 +126,7 @@ shown-all m (g ∷ names) reported (k ∷ records) e order all =
 
 -- ---- records that are kept, and those that are renewed
 
-pub one-of : (P : Kept → Type 0) (kept : List Kept) (k : Kept) → AllByRecursion P kept → IsOneOf kept k → P k
+pub one-of : (P : RecordedGlyph → Type 0) (kept : List RecordedGlyph) (k : RecordedGlyph) → AllByRecursion P kept → IsOneOf kept k → P k
 one-of P [] k all i = absurd i
 one-of P (x ∷ kept) k all (inl e) = subst P e all.0
 one-of P (x ∷ kept) k all (inr i) = one-of P kept k all.1 i
@@ -146,7 +146,7 @@ names-reported m (g ∷ names) reported e =
     ∙ ap (λ x. x ∷ map (λ t. t.name) more.1.0) (sym more.1.1.0.name)
     ∙ ap (λ l. g ∷ l) (names-reported m names more.1.0 more.1.1.1.0)
 
-kept-shown : (records : List Kept) → map (λ k. k.name) records ≡ map (λ s. s.name) (map without_serial records)
+kept-shown : (records : List RecordedGlyph) → map (λ k. k.name) records ≡ map (λ s. s.name) (map without_serial records)
 kept-shown [] = refl
 kept-shown (k ∷ records) = ap (λ l. k.name ∷ l) (kept-shown records)
 
@@ -173,7 +173,7 @@ renewed keys old new edit reported e kept records was order all =
     n : FontBodies
     n = bodies new.items
 
-    fresh : (k : Kept) → IsFromScratch m k → is_stale old keys k.name ≡ false → IsFromScratch n k
+    fresh : (k : RecordedGlyph) → IsFromScratch m k → is_stale old keys k.name ≡ false → IsFromScratch n k
     fresh k is off =
         let same = untouched_kept keys m n edit.bodies k.name is.segments is.draws off in
         record { segments = is.segments; run = same.0 ∙ is.run; trace = is.trace; draws = same.1 ∙ is.draws; box = is.box }
@@ -181,7 +181,7 @@ renewed keys old new edit reported e kept records was order all =
     before : AllByRecursion (IsFromScratch m) kept
     before = scratch-all m (glyph_names old.items) was.glyphs kept (glyphs-of old was.glyphs was.faultless) was.from_scratch
 
-    each : (k : Kept) → IsRenewed keys old new kept k → IsFromScratch n k
+    each : (k : RecordedGlyph) → IsRenewed keys old new kept k → IsFromScratch n k
     each k is =
         elim (cases_Bool (is_stale old keys k.name)) [
           | inl on ↦ is.stale on

@@ -15,7 +15,7 @@ use Rattle.t1_font.specs.Bodies.{bodies}
 use Rattle.t1_cache.specs.Edited.{is_stale}
 use Rattle.t1_cache.specs.Laws.{AreDistinct}
 use Rattle.t1_cache.specs.Renewal.{IsRenewed, RerunsLaw, kept_by}
-use Rattle.t1_cache.specs.Recorded.{IsFromScratch, IsOneOf, Kept, kept_of}
+use Rattle.t1_cache.specs.Recorded.{IsFromScratch, IsOneOf, RecordedGlyph, kept_of}
 use Rattle.t1_cache.specs.Renewed.{names_of, rerun_by_name, rerun_of, reruns_by_name, with_run, with_rerun, with_reruns}
 use Rattle.t1_cache.specs.Users.{is_name_among}
 use Rattle.t1_cache.proofs.Names.{bytes_equiv}
@@ -27,7 +27,7 @@ kept-names [] = refl
 kept-names (e ∷ entries) = ap (λ names. e.0.items ∷ names) (kept-names entries)
 
 -- a record that has the last rerun, where it is of its name, and the others after it
-again : (reruns : List Rerun) (r : Rerun) (k : Kept) → (b : Bool) → bytes_eq r.name.items k.name ≡ b
+again : (reruns : List Rerun) (r : Rerun) (k : RecordedGlyph) → (b : Bool) → bytes_eq r.name.items k.name ≡ b
     → with_rerun (rerun_of reruns k.name) (cond b (record { name = k.name; run = r.run; box = r.bbox }) k) ≡ with_rerun (rerun_of (reruns ++ r ∷ []) k.name) k
 again reruns r k b e =
     by (rerun_of reruns k.name) b
@@ -42,7 +42,7 @@ again reruns r k b e =
     by (Some x) false = refl
 
 -- a name of none of the records changes none of them
-none-named : (reruns : List Rerun) (r : Rerun) (kept : List Kept) → list_any (bytes_eq r.name.items) (map (λ k. k.name) kept) ≡ false
+none-named : (reruns : List Rerun) (r : Rerun) (kept : List RecordedGlyph) → list_any (bytes_eq r.name.items) (map (λ k. k.name) kept) ≡ false
     → with_reruns reruns kept ≡ with_reruns (reruns ++ r ∷ []) kept
 none-named reruns r [] h = refl
 none-named reruns r (k ∷ kept) h =
@@ -51,7 +51,7 @@ none-named reruns r (k ∷ kept) h =
     ∙ ap (λ l. with_rerun (rerun_of (reruns ++ r ∷ []) k.name) k ∷ l) (none-named reruns r kept h'.1)
 
 -- the last rerun, put into the record of its name, and the others after it
-with-last : (reruns : List Rerun) (r : Rerun) (kept : List Kept) → AreDistinct (map (λ k. k.name) kept)
+with-last : (reruns : List Rerun) (r : Rerun) (kept : List RecordedGlyph) → AreDistinct (map (λ k. k.name) kept)
     → with_reruns reruns (with_run r.name.items r.run r.bbox kept) ≡ with_reruns (reruns ++ r ∷ []) kept
 with-last reruns r [] d = refl
 with-last reruns r (k ∷ kept) d = by (bytes_eq r.name.items k.name) refl (with-last reruns r kept d.1) where
@@ -71,11 +71,11 @@ pub last-rerun : (reruns : List Rerun) (r : Rerun) (entries : List (Vec ℕ Glob
 last-rerun reruns r entries d = with-last reruns r (map kept_of entries) (subst AreDistinct (sym (kept-names entries)) d)
 
 -- no reruns leave the records as they are
-no-reruns : (kept : List Kept) → with_reruns [] kept ≡ kept
+no-reruns : (kept : List RecordedGlyph) → with_reruns [] kept ≡ kept
 no-reruns [] = refl
 no-reruns (k ∷ kept) = ap (λ l. k ∷ l) (no-reruns kept)
 
-pub all-renewed : (reruns : List Rerun) (kept : List Kept) → length reruns ≡ 0 → with_reruns reruns kept ≡ kept
+pub all-renewed : (reruns : List Rerun) (kept : List RecordedGlyph) → length reruns ≡ 0 → with_reruns reruns kept ≡ kept
 all-renewed [] kept none = no-reruns kept
 all-renewed (r ∷ reruns) kept none = absurd (cc)
 
@@ -92,7 +92,7 @@ none-by-name (e ∷ es) none = absurd (cc)
 -- ---- records of which the stale glyphs were run again
 
 -- what holds of each record of a name among them holds of all
-pub all-named : (P : Kept → Type 0) (xs : List Kept) → ((x : Kept) → list_any (bytes_eq x.name) (map (λ k. k.name) xs) ≡ true → P x) → AllByRecursion P xs
+pub all-named : (P : RecordedGlyph → Type 0) (xs : List RecordedGlyph) → ((x : RecordedGlyph) → list_any (bytes_eq x.name) (map (λ k. k.name) xs) ≡ true → P x) → AllByRecursion P xs
 all-named P [] each = tt
 all-named P (x ∷ xs) each = (
   each x (ap (λ b. b || list_any (bytes_eq x.name) (map (λ k. k.name) xs)) (bytes_tell.itself x.name)),
@@ -122,11 +122,11 @@ has-rerun g (x ∷ reruns) = by (bytes_eq g x.name.items) (has-rerun g reruns) w
   by true rest = refl
   by false rest = rest
 
-rerun-name : (r : Option Rerun) (k : Kept) → (with_rerun r k).name ≡ k.name
+rerun-name : (r : Option Rerun) (k : RecordedGlyph) → (with_rerun r k).name ≡ k.name
 rerun-name None k = refl
 rerun-name (Some r) k = refl
 
-pub names-stay : (reruns : List Rerun) (kept : List Kept) → map (λ k. k.name) (with_reruns reruns kept) ≡ map (λ k. k.name) kept
+pub names-stay : (reruns : List Rerun) (kept : List RecordedGlyph) → map (λ k. k.name) (with_reruns reruns kept) ≡ map (λ k. k.name) kept
 names-stay reruns [] = refl
 names-stay reruns (k ∷ kept) =
     ap (λ g. g ∷ map (λ x. x.name) (with_reruns reruns kept)) (rerun-name (rerun_of reruns k.name) k)
@@ -141,7 +141,7 @@ records_rerun keys old new edit reported e kept before reruns was order fresh sc
     (λ k there. stale k.name (ap (list_any (bytes_eq k.name)) (sym order) ∙ there)))
     fresh)
   where
-    each : (k : Kept) → is_name_among (λ r. r.name.items) reruns k.name ≡ is_stale old keys k.name → (is_stale old keys k.name ≡ false → IsOneOf kept k)
+    each : (k : RecordedGlyph) → is_name_among (λ r. r.name.items) reruns k.name ≡ is_stale old keys k.name → (is_stale old keys k.name ≡ false → IsOneOf kept k)
         → IsRenewed keys old new kept (with_rerun (rerun_of reruns k.name) k)
     each k same one = by (rerun_of reruns k.name) refl where
       by : (r : Option Rerun) → rerun_of reruns k.name ≡ r → IsRenewed keys old new kept (with_rerun r k)

@@ -4,7 +4,7 @@ use Rattle.std.specs.Map.{lookup}
 use Rattle.std.specs.Option.{option_map}
 use Rattle.std.specs.Str.{bytes_eq}
 use Rattle.t1_cache.specs.declared.records.GlyphRecord.{GlyphRecord}
-use Rattle.t1_cache.specs.Recorded.{Kept, kept_of}
+use Rattle.t1_cache.specs.Recorded.{RecordedGlyph, kept_of}
 use Rattle.t1_cache.specs.Users.{is_name_among}
 use Rattle.t1_font.proofs.Lookups.{bytes_tell}
 
@@ -58,9 +58,9 @@ no-items : {X : Type 0} (xs : List X) → length xs ≡ 0 → xs ≡ []
 no-items [] e = refl
 no-items (x ∷ xs) e = absurd (cc)
 
-all-left : (ks : List Kept) → ks ≡ filter (λ k. true) ks
+all-left : (ks : List RecordedGlyph) → ks ≡ filter (λ k. true) ks
 all-left [] = refl
 all-left (k ∷ ks) = ap (λ l. k ∷ l) (all-left ks)
 
-pub kept-all : (names : List (Vec ℕ Global)) → length names ≡ 0 → (ks : List Kept) → ks ≡ filter (λ k. not (is_name_among (λ name. name.items) names k.name)) ks
+pub kept-all : (names : List (Vec ℕ Global)) → length names ≡ 0 → (ks : List RecordedGlyph) → ks ≡ filter (λ k. not (is_name_among (λ name. name.items) names k.name)) ks
 kept-all names e ks = all-left ks ∙ ap (λ ns. filter (λ k. not (is_name_among (λ name. name.items) ns k.name)) ks) (sym (no-items names e))

@@ -14,10 +14,10 @@ use Rattle.t1_cache.specs.declared.records.GlyphRecord.{GlyphRecord}
 use Rattle.t1_cache.specs.declared.records.NewRun.{NewRun}
 use Rattle.t1_cache.specs.declared.records.Records.{Records}
 use Rattle.t1_cache.specs.declared.records.Rerun.{Rerun}
-use Rattle.t1_cache.specs.Recorded.{Kept}
+use Rattle.t1_cache.specs.Recorded.{RecordedGlyph}
 
 -- word: the record of a glyph, its body and users aside
-abbrev pub kept : List ℕ → TracedRun → Option BBox → Kept
+abbrev pub kept : List ℕ → TracedRun → Option BBox → RecordedGlyph
 kept name run box = record { name = name; run = run; box = box }
 
 -- word: the names of the glyphs that have a record
@@ -33,7 +33,7 @@ abbrev pub recorded_run : Records → List ℕ → Option (Result Drawing Code)
 recorded_run records g = option_map (λ r. Ok r.run.drawing) (record_of records.glyphs.entries g)
 
 -- word: the record of this name has another run and box, in its place
-abbrev pub with_run : List ℕ → TracedRun → Option BBox → List Kept → List Kept
+abbrev pub with_run : List ℕ → TracedRun → Option BBox → List RecordedGlyph → List RecordedGlyph
 with_run name run box [] = []
 with_run name run box (k ∷ kept) = if bytes_eq name k.name then record { name = k.name; run = run; box = box } ∷ kept else k ∷ with_run name run box kept
 
@@ -42,12 +42,12 @@ abbrev pub rerun_of : List Rerun → List ℕ → Option Rerun
 rerun_of reruns g = find (λ r. bytes_eq g r.name.items) reruns
 
 -- word: a record with the run and box of a rerun, where there is one
-abbrev pub with_rerun : Option Rerun → Kept → Kept
+abbrev pub with_rerun : Option Rerun → RecordedGlyph → RecordedGlyph
 with_rerun None k = k
 with_rerun (Some r) k = record { name = k.name; run = r.run; box = r.bbox }
 
 -- word: the records of the glyphs that were run again have their new runs and boxes; the others stay
-abbrev pub with_reruns : List Rerun → List Kept → List Kept
+abbrev pub with_reruns : List Rerun → List RecordedGlyph → List RecordedGlyph
 with_reruns reruns kept = map (λ k. with_rerun (rerun_of reruns k.name) k) kept
 
 -- word: new runs by name, as reruns

@@ -8,8 +8,8 @@ use Rattle.t1_source.specs.declared.edit.Rule.{Rule}
 use Rattle.t1_text.specs.Lines.{joined, lines}
 use Rattle.t1_commands.specs.declared.answer.Answer.{Answer}
 use Rattle.t1_commands.specs.declared.answer.Answer.TheVariants.{Broken, OutOfMemory}
-use Rattle.t1_commands.specs.declared.command.Command.{Command}
-use Rattle.t1_commands.specs.declared.command.Command.TheVariants as commands
+use Rattle.t1_commands.specs.declared.command.SessionCommand.{SessionCommand}
+use Rattle.t1_commands.specs.declared.command.SessionCommand.TheVariants as commands
 use Rattle.t1_commands.specs.declared.print.Print.{Print}
 use Rattle.t1_commands.specs.declared.show.Show.{Show}
 use Rattle.t1_commands.specs.AnswerTexts.{answer_text}
@@ -27,7 +27,7 @@ use Rattle.t1_calls.specs.Performing.{IsCallAnswered, IsAnswerTo}
 use Rattle.t1_calls.proofs.FramingLaws.{of_call}
 
 -- what was performed, and how it is answered
-pub taken : {T E : Type 0} (old new : SessionState) (command : Command) (r : Result T Cause) (a : Result Answer E)
+pub taken : {T E : Type 0} (old new : SessionState) (command : SessionCommand) (r : Result T Cause) (a : Result Answer E)
     → Takes old command r new → told.Answers r a → IsCallAnswered old new command a
 taken old new command (Ok done) (Ok answer) took says = (says ∙ sym took.0, took.1)
 taken old new command (Ok done) (Err e) took says = absurd says
@@ -51,21 +51,21 @@ show_answered s show (Ok answer) h = (h, refl)
 show_answered s show (Err e) h = (refl, refl)
 
 -- nor does what is no command
-pub broken_answered : (s : SessionState) (command : Command) (rule : Rule) → command ≡ commands.Broken rule
+pub broken_answered : (s : SessionState) (command : SessionCommand) (rule : Rule) → command ≡ commands.Broken rule
     → (Broken rule ≡ (perform s command).answer) × (s ≡ (perform s command).next)
 unfolding perform outcome
 broken_answered s command rule is = rw is (refl, refl)
 
 -- an answer is a step that isn't marked
-stepped : (E : Type 0) (old new : SessionState) (command : Command) (answer : Answer) → IsCallAnswered {E = E} old new command (Ok answer) → IsAnswerTo old new command answer
+stepped : (E : Type 0) (old new : SessionState) (command : SessionCommand) (answer : Answer) → IsCallAnswered {E = E} old new command (Ok answer) → IsAnswerTo old new command answer
 stepped E old new command answer h = record { mark = false; is = h.0; next = h.1 }
 
 -- want of memory is a step that is marked
-wanted : (old new : SessionState) (command : Command) → may_want_memory old command ≡ true → new ≡ after_want old command → IsAnswerTo old new command OutOfMemory
+wanted : (old new : SessionState) (command : SessionCommand) → may_want_memory old command ≡ true → new ≡ after_want old command → IsAnswerTo old new command OutOfMemory
 wanted old new command h n = record { mark = true; is = rw h refl; next = rw h n }
 
 -- so is that for the command itself
-unmade : (s : SessionState) (command : Command) → is_edit_or_query command ≡ true → IsAnswerTo s s command OutOfMemory
+unmade : (s : SessionState) (command : SessionCommand) → is_edit_or_query command ≡ true → IsAnswerTo s s command OutOfMemory
 unmade s (commands.Edit edit) h = wanted s s (commands.Edit edit) refl refl
 unmade s (commands.Show show) h = wanted s s (commands.Show show) refl refl
 unmade s (commands.Print print) h = cc
@@ -75,20 +75,20 @@ unmade s commands.Abort h = cc
 unmade s (commands.Broken rule) h = cc
 
 -- the step of a command that was made
-pub answered : (E : Type 0) (old new : SessionState) (command asked : Command) (answer : Answer) → IsCallAnswered {E = E} old new command (Ok answer) → command ≡ asked
+pub answered : (E : Type 0) (old new : SessionState) (command asked : SessionCommand) (answer : Answer) → IsCallAnswered {E = E} old new command (Ok answer) → command ≡ asked
     → IsAnswerTo old new asked answer
-answered E old new command asked answer h is = subst (λ (q : Command). IsAnswerTo old new q answer) is (stepped E old new command answer h)
+answered E old new command asked answer h is = subst (λ (q : SessionCommand). IsAnswerTo old new q answer) is (stepped E old new command answer h)
 
 -- the step of one that met want of memory
-pub unanswered : {E : Type 0} (old new : SessionState) (command asked : Command) (e : E) → IsCallAnswered old new command (Err e) → command ≡ asked → IsAnswerTo old new asked OutOfMemory
-unanswered old new command asked e h is = subst (λ (q : Command). IsAnswerTo old new q OutOfMemory) is (wanted old new command h.0 h.1)
+pub unanswered : {E : Type 0} (old new : SessionState) (command asked : SessionCommand) (e : E) → IsCallAnswered old new command (Err e) → command ≡ asked → IsAnswerTo old new asked OutOfMemory
+unanswered old new command asked e h is = subst (λ (q : SessionCommand). IsAnswerTo old new q OutOfMemory) is (wanted old new command h.0 h.1)
 
 -- the step of one that couldn't be made
-pub not_made : {E : Type 0} (s : SessionState) (asked : Command) (e : E) → Makes (Err e) asked → IsAnswerTo s s asked OutOfMemory
+pub not_made : {E : Type 0} (s : SessionState) (asked : SessionCommand) (e : E) → Makes (Err e) asked → IsAnswerTo s s asked OutOfMemory
 not_made s asked e makes = unmade s asked makes.0
 
 -- a step is the answer to one command, whatever commands come after
-one : (old new : SessionState) (command : Command) (answer : Answer) → IsAnswerTo old new command answer → Performs old new (command ∷ []) (answer_text answer)
+one : (old new : SessionState) (command : SessionCommand) (answer : Answer) → IsAnswerTo old new command answer → Performs old new (command ∷ []) (answer_text answer)
 one old new command answer step = record {
   marks = step.mark ∷ [];
   on = λ rest more.
@@ -96,20 +96,20 @@ one old new command answer step = record {
       (ap (λ (a : Answer). answer_text a ++ answers machine (answer_to machine old command step.mark).next rest more) (sym step.is));
 }
 
-of_commands : (old new : SessionState) (made : List Command) (command : Command) (answer : Answer) → made ≡ command ∷ [] → IsAnswerTo old new command answer
+of_commands : (old new : SessionState) (made : List SessionCommand) (command : SessionCommand) (answer : Answer) → made ≡ command ∷ [] → IsAnswerTo old new command answer
     → Performs old new made (answer_text answer)
-of_commands old new made command answer is step = subst (λ (cs : List Command). Performs old new cs (answer_text answer)) (sym is) (one old new command answer step)
+of_commands old new made command answer is step = subst (λ (cs : List SessionCommand). Performs old new cs (answer_text answer)) (sym is) (one old new command answer step)
 
 -- no command, no answer
-none : (s : SessionState) (made : List Command) → made ≡ [] → Performs s s made []
-none s made is = subst (λ (cs : List Command). Performs s s cs []) (sym is) (record { marks = []; on = λ rest more. refl })
+none : (s : SessionState) (made : List SessionCommand) → made ≡ [] → Performs s s made []
+none s made is = subst (λ (cs : List SessionCommand). Performs s s cs []) (sym is) (record { marks = []; on = λ rest more. refl })
 
 -- what a call's command does, its texts do as input
 brought : (old new : SessionState) (line body text : List ℕ) → is_call line body ≡ true → Performs old new (call_commands line body) text → Brings old new (framed line body) text
 brought old new line body text call performs = record {
   marks = performs.marks;
   on = λ rest ended more.
-      ap (λ (cs : List Command). answers machine old cs (performs.marks ++ more)) (of_call ended line body rest call) ∙ performs.on (input_commands ended rest) more;
+      ap (λ (cs : List SessionCommand). answers machine old cs (performs.marks ++ more)) (of_call ended line body rest call) ∙ performs.on (input_commands ended rest) more;
 }
 
 -- a line with its body

@@ -4,7 +4,7 @@ use Rattle.std.specs.List.{list_all}
 use Rattle.t1_frac.specs.Ascii.{line_feed}
 use Rattle.t1_frac.specs.Words.{words}
 use Rattle.t1_text.specs.Lines.{is_line, joined, lines}
-use Rattle.t1_commands.specs.declared.command.Command.{Command}
+use Rattle.t1_commands.specs.declared.command.SessionCommand.{SessionCommand}
 use Rattle.t1_commands.specs.Commands.{alone, body_command, ends_body, takes_body}
 
 -- profile, session commands: no line of the text is `.`, apart from blanks, which would end a body
@@ -23,5 +23,5 @@ framed line body =
     if takes_body (words line) then line ++ line_feed ∷ (joined (lines body) ++ (codes "." ++ line_feed ∷ [])) else line ++ line_feed ∷ []
 
 -- profile, session commands: the command of a call's texts: none where its line has no words
-abbrev pub call_commands : List ℕ → List ℕ → List Command
+abbrev pub call_commands : List ℕ → List ℕ → List SessionCommand
 call_commands line body = if takes_body (words line) then body_command (words line) (joined (lines body)) ∷ [] else alone (words line)

@@ -10,12 +10,12 @@ use Rattle.t1_run.specs.State.{State, initial}
 use Rattle.t1_run.specs.Step.{Step, Next, Call, Back, End, Compose, Fault}
 use Rattle.t1_run.specs.Words.{step}
 use Rattle.t1_run.specs.Run as runs
-use Rattle.t1_run.specs.Run.{FontBodies, Stop, Runner, entering, composite_of, body_stop, drawing_of, outcome_of}
+use Rattle.t1_run.specs.Run.{FontBodies, RunEnd, Runner, entering, composite_of, body_stop, drawing_of, outcome_of}
 use Rattle.t1_chain.specs.Failing.{Ending, OutOfWords, Returned, Completed, Failed, Failure, Follower, CallFollower, FailureLaw, follow_step, followed_within, followed_call, called_at, followed_composite, endings, failure_by, failure_in, fails_at, followed_too_deep, unmeasured, words_from}
 use Rattle.t1_chain.specs.declared.failure.Call.{Call as SubrCall}
 
 -- both stop in one way and state, or fail by one code
-abbrev Alike : Ending → Stop → Type 0
+abbrev Alike : Ending → RunEnd → Type 0
 Alike (OutOfWords s) (runs.OutOfWords t) = s ≡ t
 Alike (Returned word s) (runs.Returned t) = s ≡ t
 Alike (Completed s) (runs.Completed composite t) = s ≡ t
@@ -23,7 +23,7 @@ Alike (Failed failure) (runs.Failed code) = failure.code ≡ code
 Alike _ _ = ⊥
 
 -- so does a call
-abbrev AlikeCall : Result Ending Code → Stop → Type 0
+abbrev AlikeCall : Result Ending Code → RunEnd → Type 0
 AlikeCall (Ok ending) stop = Alike ending stop
 AlikeCall (Err found) (runs.Failed code) = found ≡ code
 AlikeCall (Err found) _ = ⊥
@@ -33,7 +33,7 @@ abbrev Keeps : (Code → Failure) → Type 0
 Keeps fails = (code : Code) → (fails code).code ≡ code
 
 after-alike : (fails : Code → Failure) (call : SubrCall) (next : Follower) (next' : Runner) → Keeps fails → ((s : State) → Alike (next s) (next' s))
-    → (ending : Result Ending Code) (stop : Stop) → AlikeCall ending stop → Alike (called_at fails call next ending) (runs.go_on next' stop)
+    → (ending : Result Ending Code) (stop : RunEnd) → AlikeCall ending stop → Alike (called_at fails call next ending) (runs.go_on next' stop)
 after-alike fails call next next' keeps rest (Ok (OutOfWords s)) (runs.OutOfWords t) h = subst (λ u. Alike (next s) (next' u)) h (rest s)
 after-alike fails call next next' keeps rest (Ok (Returned word s)) (runs.Returned t) h = subst (λ u. Alike (next s) (next' u)) h (rest s)
 after-alike fails call next next' keeps rest (Ok (Completed s)) (runs.Completed composite t) h = h
@@ -80,7 +80,7 @@ measured-alike : (count : ℕ) (composite : Option Composite) (s : State) (metri
 measured-alike count composite s None = refl
 measured-alike count composite s (Some metric) = refl
 
-told : (count : ℕ) (ending : Ending) (stop : Stop) → Alike ending stop → option_map (λ (f : Failure). f.code) (failure_by count ending) ≡ result_err (outcome_of stop)
+told : (count : ℕ) (ending : Ending) (stop : RunEnd) → Alike ending stop → option_map (λ (f : Failure). f.code) (failure_by count ending) ≡ result_err (outcome_of stop)
 told count (OutOfWords s) (runs.OutOfWords t) h = refl
 told count (Returned word s) (runs.Returned t) h = refl
 told count (Completed s) (runs.Completed composite t) h =

@@ -22,14 +22,14 @@ const EEXEC_KEY: u16 = 55_665;
 
 /// How encrypted text stands in a file.
 #[derive(Drop)]
-pub(crate) enum Form {
+pub(crate) enum EncryptedForm {
     /// As bytes in segments of a PFB file.
     Binary(Segmenter),
     /// As lines of hexadecimal digits.
     Hexadecimal(HexLines),
 }
 
-impl Form {
+impl EncryptedForm {
     /// Passes encrypted bytes on.
     fn put<W: Write>(
         &mut self,
@@ -42,8 +42,8 @@ impl Form {
         ensures state { OnOk result (self.new ≡ form_after self.old bytes.now) }
     {
         match self {
-            Form::Binary(segmenter) => segmenter.put(out, chunk, bytes),
-            Form::Hexadecimal(lines) => lines.put(out, chunk, bytes),
+            EncryptedForm::Binary(segmenter) => segmenter.put(out, chunk, bytes),
+            EncryptedForm::Hexadecimal(lines) => lines.put(out, chunk, bytes),
         }
     }
 }
@@ -53,7 +53,7 @@ impl Form {
 #[derive(Drop)]
 pub(crate) struct EexecWriter {
     cipher: Cipher,
-    form: Form,
+    form: EncryptedForm,
     buffer: [u8; MAX_PUT],
 }
 
@@ -78,7 +78,7 @@ fn encrypt_into<'a>(cipher: &mut Cipher, buffer: &'a mut [u8; MAX_PUT], plain: &
 }
 
 impl EexecWriter {
-    pub(crate) fn new(form: Form) -> EexecWriter
+    pub(crate) fn new(form: EncryptedForm) -> EexecWriter
         ensures key { result.key ≡ 55665 }
         ensures form { result.form ≡ form }
     {
@@ -176,7 +176,7 @@ impl EexecWriter {
 pub(crate) fn put_private<W: Write>(
     out: &mut Counted<W>,
     chunk: &mut Chunk,
-    form: Form,
+    form: EncryptedForm,
     pieces: &[Piece],
 ) -> io::Result<()>
     ensures { Puts W.contents (outlet out.old chunk.old) (outlet out.new chunk.new)

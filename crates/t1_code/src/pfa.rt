@@ -8,7 +8,7 @@ ghost use Rattle.t1_code.specs.Pfa.{hexadecimal_lines, pfa};
 
 use crate::chunk::{Chunk, put_plain};
 use crate::counted::Counted;
-use crate::eexec::{Form, put_private};
+use crate::eexec::{EncryptedForm, put_private};
 use crate::form::{FileForm, write_file};
 use crate::hexadecimal::HexLines;
 use crate::parts::{OutError, Parts, Piece};
@@ -20,7 +20,12 @@ fn put_digits<W: Write>(out: &mut Counted<W>, chunk: &mut Chunk, pieces: &[Piece
     ensures { Puts W.contents (outlet out.old chunk.old) (outlet out.new chunk.new)
         (hexadecimal_lines (eexec (flat_map piece_text pieces.now))) result }
 {
-    put_private(out, chunk, Form::Hexadecimal(HexLines::new()), pieces)?;
+    put_private(
+        out,
+        chunk,
+        EncryptedForm::Hexadecimal(HexLines::new()),
+        pieces,
+    )?;
     put_plain(out, chunk, b"\n")
 }
 

@@ -7,7 +7,7 @@ ghost use Rattle.t1_code.specs.Pfb.{pfb};
 
 use crate::chunk::{Chunk, put_plain};
 use crate::counted::Counted;
-use crate::eexec::{Form, put_private};
+use crate::eexec::{EncryptedForm, put_private};
 use crate::form::{FileForm, write_file};
 use crate::parts::{OutError, Parts};
 use crate::pieces::{MAX_PART, private_part_len};
@@ -44,7 +44,7 @@ fn put_file<W: Write>(
 {
     put_part(out, chunk, ASCII, size, parts.clear)?;
     let segmenter = Segmenter::begin(out, chunk, BINARY, size, private_len)?;
-    put_private(out, chunk, Form::Binary(segmenter), parts.pieces)?;
+    put_private(out, chunk, EncryptedForm::Binary(segmenter), parts.pieces)?;
     put_part(out, chunk, ASCII, size, parts.trailer)?;
     put_plain(out, chunk, &[MARKER, END])
 }

@@ -1,9 +1,9 @@
 -- The codes that are explained, below their titles.
 use Rattle.std.specs.Prelude.{ℕ, List, [], ◌∷◌, map, codes}
-use Rattle.t1_command_line.specs.declared.topic.Section.{Section}
+use Rattle.t1_command_line.specs.declared.topic.TopicGroup.{TopicGroup}
 
 -- profile: a section without its texts: its title, and the codes of its topics in their order
-abbrev pub outline_of : Section → List ℕ × List (List ℕ)
+abbrev pub outline_of : TopicGroup → List ℕ × List (List ℕ)
 outline_of section = (section.title.now, map (λ topic. topic.code.now) section.topics.now)
 
 -- profile: the faults of reading a source

@@ -15,4 +15,4 @@ mod topic;
 
 pub use command_line::command;
 pub use table::all_sections;
-pub use topic::{Section, Topic, explanation, meaning};
+pub use topic::{Topic, TopicGroup, explanation, meaning};

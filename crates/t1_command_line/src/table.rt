@@ -14,13 +14,13 @@ mod rules;
 mod runs;
 mod statuses;
 
-use crate::topic::Section;
+use crate::topic::TopicGroup;
 
 /// What stands above lines that cause a fault.
 pub(crate) const FAULT_EXAMPLE: &str = "For example, this has the fault:\n\n";
 
 /// All of them, each code once, in the order in which they are listed.
-pub fn all_sections() -> [Section; 8]
+pub fn all_sections() -> [TopicGroup; 8]
     ensures { map outline_of result ≡ of_program }
 {
     [

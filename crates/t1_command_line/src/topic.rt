@@ -29,7 +29,7 @@ pub struct Topic {
 
 /// Topics of one kind.
 #[derive(Clone, Copy)]
-pub struct Section {
+pub struct TopicGroup {
     pub title: &'static str,
     pub topics: &'static [Topic],
 }
@@ -55,7 +55,7 @@ fn find(topics: &'static [Topic], code: &[u8]) -> Option<&'static Topic>
 }
 
 /// The first topic of the sections that has this code, in letters of either case.
-fn find_in(sections: &[Section], code: &[u8]) -> Option<&'static Topic>
+fn find_in(sections: &[TopicGroup], code: &[u8]) -> Option<&'static Topic>
     ensures { option_map (λ topic. topic.now) result ≡ topic_of sections.now code.now }
 {
     for section in sections {
@@ -91,7 +91,7 @@ fn push_lines(text: &mut String, topics: &[Topic]) -> Result<(), AllocError>
 
 /// Adds a section's title, and the line of each of its topics.
 #[tactic(auto, unfolding(crate::specs::Topics::topics_section))]
-fn push_section(text: &mut String, section: &Section) -> Result<(), AllocError>
+fn push_section(text: &mut String, section: &TopicGroup) -> Result<(), AllocError>
     ensures { OnOk result (string_bytes text.new ≡ string_bytes text.old ++ topics_section
         section.now) }
 {
@@ -101,7 +101,7 @@ fn push_section(text: &mut String, section: &Section) -> Result<(), AllocError>
 }
 
 /// Adds sections, each after an empty line.
-fn push_others(text: &mut String, sections: &[Section]) -> Result<(), AllocError>
+fn push_others(text: &mut String, sections: &[TopicGroup]) -> Result<(), AllocError>
     ensures { OnOk result (string_bytes text.new ≡ string_bytes text.old ++ other_sections_text
         sections.now) }
 {
@@ -113,7 +113,7 @@ fn push_others(text: &mut String, sections: &[Section]) -> Result<(), AllocError
 }
 
 /// A list of all topics of the sections, each with its meaning in a few words.
-pub fn list(alloc: Global, sections: &[Section]) -> Result<String, AllocError>
+pub fn list(alloc: Global, sections: &[TopicGroup]) -> Result<String, AllocError>
     ensures { IfOk result (λ text. string_bytes text ≡ list_text sections.now) }
 {
     let mut text = String::new(alloc);
@@ -155,7 +155,7 @@ fn before_space(text: &[u8]) -> &[u8]
 }
 
 /// What a code means in a few words; nothing where the sections don't have it.
-pub fn meaning(sections: &[Section], code: &[u8]) -> &'static str
+pub fn meaning(sections: &[TopicGroup], code: &[u8]) -> &'static str
     ensures { result.now ≡ meaning_of sections.now code.now }
 {
     match find_in(sections, code) {
@@ -168,7 +168,7 @@ pub fn meaning(sections: &[Section], code: &[u8]) -> &'static str
 /// the sections don't have it; the list of all where no text is given.
 pub fn explanation(
     alloc: Global,
-    sections: &[Section],
+    sections: &[TopicGroup],
     text: Option<&str>,
 ) -> Result<Option<String>, AllocError>
     ensures { IfOk result (λ said. option_map string_bytes said ≡ explanation_of sections.now

@@ -10,7 +10,7 @@ use Rattle.t1_source.specs.declared.edit.Edit.TheVariants as edits
 use Rattle.t1_source.specs.declared.edit.Rule.TheVariants.{E7, E8}
 use Rattle.t1_commands.specs.declared.print.Print.TheVariants as prints
 use Rattle.t1_commands.specs.declared.show.Show.TheVariants as shows
-use Rattle.t1_commands.specs.declared.command.Command.TheVariants as commands
+use Rattle.t1_commands.specs.declared.command.SessionCommand.TheVariants as commands
 use Rattle.t1_commands.specs.declared.answer.Answer.TheVariants.{Accepted, Broken, Faulty, OutOfMemory}
 use Rattle.t1_commands.specs.Lines.{finished_lines}
 use Rattle.t1_commands.specs.Commands.{commands_of, input_commands, line_command, other_command, removal, setting, whole_print, blocks_print, whole_show, entry_show, body_command, bodied_edit, open_command, takes_body, ends_body, number_of}

@@ -1,6 +1,6 @@
 -- What a session answers to its input, for any machine that performs the commands.
 use Rattle.std.specs.Prelude.{ℕ, Bool, false, ◌&&◌, if◌then◌else◌, List, [], ◌∷◌, ◌++◌}
-use Rattle.t1_commands.specs.declared.command.Command.{Command}
+use Rattle.t1_commands.specs.declared.command.SessionCommand.{SessionCommand}
 use Rattle.t1_commands.specs.declared.answer.Answer.{Answer}
 use Rattle.t1_commands.specs.declared.answer.Answer.TheVariants.{OutOfMemory}
 use Rattle.t1_commands.specs.Commands.{input_commands}
@@ -13,12 +13,12 @@ pub record Performed (S : Type 0) : Type 0 where
 
 -- profile, answers: how commands are performed, which of them may meet want of memory, and what those leave that did
 pub record Machine (S : Type 0) : Type 0 where
-  pub perform : S → Command → Performed S
-  pub may_want_memory : S → Command → Bool
-  pub after_want : S → Command → S
+  pub perform : S → SessionCommand → Performed S
+  pub may_want_memory : S → SessionCommand → Bool
+  pub after_want : S → SessionCommand → S
 
 -- profile, answers: the answer to a command, marked or not as one that met want of memory
-abbrev pub answer_to : {S : Type 0} → Machine S → S → Command → Bool → Performed S
+abbrev pub answer_to : {S : Type 0} → Machine S → S → SessionCommand → Bool → Performed S
 answer_to m s r mark =
     if mark && m.may_want_memory s r then record { answer = OutOfMemory; next = m.after_want s r } else m.perform s r
 
@@ -33,7 +33,7 @@ other_marks [] = []
 other_marks (mark ∷ marks) = marks
 
 -- profile, answers: the answers to the commands, one after another
-abbrev pub answers : {S : Type 0} → Machine S → S → List Command → List Bool → List ℕ
+abbrev pub answers : {S : Type 0} → Machine S → S → List SessionCommand → List Bool → List ℕ
 answers m s [] marks = []
 answers m s (r ∷ rs) marks =
     answer_text (answer_to m s r (first_mark marks)).answer ++ answers m (answer_to m s r (first_mark marks)).next rs (other_marks marks)

@@ -11,8 +11,8 @@ use Rattle.t1_source.specs.declared.edit.Rule.TheVariants.{E7, E8}
 use Rattle.t1_commands.specs.Lines.{finished_lines}
 use Rattle.t1_commands.specs.declared.print.Print.TheVariants as prints
 use Rattle.t1_commands.specs.declared.show.Show.TheVariants as shows
-use Rattle.t1_commands.specs.declared.command.Command.{Command}
-use Rattle.t1_commands.specs.declared.command.Command.TheVariants as commands
+use Rattle.t1_commands.specs.declared.command.SessionCommand.{SessionCommand}
+use Rattle.t1_commands.specs.declared.command.SessionCommand.TheVariants as commands
 
 -- profile, session commands: a command whose body is being read: the line that opened it, and its body so far
 pub record OpenCommand : Type 0 where
@@ -39,16 +39,16 @@ three_words (a ∷ b ∷ c ∷ []) = Some (a, b, c)
 three_words _ = None
 
 -- profile, edit rules: E8, an unknown command or a wrong number of words
-abbrev pub unknown : Command
+abbrev pub unknown : SessionCommand
 unknown = commands.Broken E8
 
 -- profile, session commands: the edit of these words, where they are as many as it takes
-abbrev pub edit_of : {X : Type 0} → (X → Edit) → Option X → Command
+abbrev pub edit_of : {X : Type 0} → (X → Edit) → Option X → SessionCommand
 edit_of f None = unknown
 edit_of f (Some x) = commands.Edit (f x)
 
 -- profile, session commands: `remove glyph NAME`, `remove subr N`
-unfoldable pub removal : List (List ℕ) → Command
+unfoldable pub removal : List (List ℕ) → SessionCommand
 removal [] = unknown
 removal (kind ∷ rest) =
     if bytes_eq kind (codes "glyph") then edit_of RemoveGlyph (one_word rest)
@@ -56,12 +56,12 @@ removal (kind ∷ rest) =
     else unknown
 
 -- profile, session commands: `set leniv N`
-unfoldable pub setting : List (List ℕ) → Command
+unfoldable pub setting : List (List ℕ) → SessionCommand
 setting [] = unknown
 setting (kind ∷ rest) = if bytes_eq kind (codes "leniv") then edit_of (λ n. LenIv (number_of n)) (one_word rest) else unknown
 
 -- profile, session commands: `print source`, `print kern`, `print pfb`, `print pfa`, `print afm`, `print uses`
-unfoldable pub whole_print : List ℕ → Command
+unfoldable pub whole_print : List ℕ → SessionCommand
 whole_print word =
     if bytes_eq word (codes "source") then commands.Print prints.Source
     else if bytes_eq word (codes "kern") then commands.Print prints.Kern
@@ -72,28 +72,28 @@ whole_print word =
     else unknown
 
 -- profile, session commands: `print pfb N`
-unfoldable pub blocks_print : Option (List ℕ × List ℕ) → Command
+unfoldable pub blocks_print : Option (List ℕ × List ℕ) → SessionCommand
 blocks_print None = unknown
 blocks_print (Some w) = if bytes_eq w.0 (codes "pfb") then commands.Print (prints.Blocks (number_of w.1)) else unknown
 
 -- profile, session commands: the print of one word, else that of two
-abbrev pub print_by : Option (List ℕ) → Option (List ℕ × List ℕ) → Command
+abbrev pub print_by : Option (List ℕ) → Option (List ℕ × List ℕ) → SessionCommand
 print_by (Some word) two = whole_print word
 print_by None two = blocks_print two
 
 -- profile, session commands: a print has one word or two
-abbrev pub print_of : List (List ℕ) → Command
+abbrev pub print_of : List (List ℕ) → SessionCommand
 print_of rest = print_by (one_word rest) (two_words rest)
 
 -- profile, session commands: `show encoding`, `show refusal`
-unfoldable pub whole_show : List ℕ → Command
+unfoldable pub whole_show : List ℕ → SessionCommand
 whole_show word =
     if bytes_eq word (codes "encoding") then commands.Show shows.Encoding
     else if bytes_eq word (codes "refusal") then commands.Show shows.Refusal
     else unknown
 
 -- profile, session commands: `show glyph NAME`, `show subr N`, `show metrics NAME`, `show outline NAME`
-unfoldable pub entry_show : Option (List ℕ × List ℕ) → Command
+unfoldable pub entry_show : Option (List ℕ × List ℕ) → SessionCommand
 entry_show None = unknown
 entry_show (Some w) =
     if bytes_eq w.0 (codes "glyph") then commands.Show (shows.Glyph w.1)
@@ -103,21 +103,21 @@ entry_show (Some w) =
     else unknown
 
 -- profile, session commands: the query of one word, else that of two
-abbrev pub show_by : Option (List ℕ) → Option (List ℕ × List ℕ) → Command
+abbrev pub show_by : Option (List ℕ) → Option (List ℕ × List ℕ) → SessionCommand
 show_by (Some word) two = whole_show word
 show_by None two = entry_show two
 
 -- profile, session commands: a query has one word or two
-abbrev pub show_of : List (List ℕ) → Command
+abbrev pub show_of : List (List ℕ) → SessionCommand
 show_of rest = show_by (one_word rest) (two_words rest)
 
 -- profile, session commands: `begin`, `commit`, `abort`, without further words
-abbrev pub lone : Command → List (List ℕ) → Command
+abbrev pub lone : SessionCommand → List (List ℕ) → SessionCommand
 lone command [] = command
 lone command (word ∷ rest) = unknown
 
 -- profile, session commands: those that are no edits and no queries, by the first word
-unfoldable pub other_command : List ℕ → List (List ℕ) → Command
+unfoldable pub other_command : List ℕ → List (List ℕ) → SessionCommand
 other_command verb rest =
     if bytes_eq verb (codes "print") then print_of rest
     else if bytes_eq verb (codes "begin") then lone commands.Begin rest
@@ -126,7 +126,7 @@ other_command verb rest =
     else unknown
 
 -- profile, session commands: those that take no body
-unfoldable pub line_command : List (List ℕ) → Command
+unfoldable pub line_command : List (List ℕ) → SessionCommand
 line_command [] = unknown
 line_command (verb ∷ rest) =
     if bytes_eq verb (codes "remove") then removal rest
@@ -146,16 +146,16 @@ bodied_edit w body =
     else (if bytes_eq w.0 (codes "replace") then ReplaceSubr (number_of w.2) body else AddSubr (number_of w.2) body)
 
 -- profile, session commands: a command with its whole body
-unfoldable pub body_command : List (List ℕ) → List ℕ → Command
+unfoldable pub body_command : List (List ℕ) → List ℕ → SessionCommand
 body_command heading body = edit_of (λ w. bodied_edit w body) (three_words heading)
 
 -- profile, edit rules: E7, the input ended inside a body; it comes after E8
-abbrev pub left_open : Option (List ℕ × List ℕ × List ℕ) → Command
+abbrev pub left_open : Option (List ℕ × List ℕ × List ℕ) → SessionCommand
 left_open None = unknown
 left_open (Some w) = commands.Broken E7
 
 -- profile, edit rules: what a command becomes whose body the input leaves open
-unfoldable pub open_command : List (List ℕ) → Command
+unfoldable pub open_command : List (List ℕ) → SessionCommand
 open_command heading = left_open (three_words heading)
 
 -- profile, session commands: a line takes a body by its first two words, whatever follows
@@ -179,12 +179,12 @@ is_wordless [] = true
 is_wordless (word ∷ rest) = false
 
 -- profile, session commands: the command of a line that takes no body
-abbrev pub alone : List (List ℕ) → List Command
+abbrev pub alone : List (List ℕ) → List SessionCommand
 alone line = if is_wordless line then [] else line_command line ∷ []
 
 -- profile, session commands: the commands of the lines, where the body of an opened one comes first; once the input has
 -- ended, a body that it leaves open makes a command too
-abbrev pub commands_of : Bool → Option OpenCommand → List (List ℕ) → List Command
+abbrev pub commands_of : Bool → Option OpenCommand → List (List ℕ) → List SessionCommand
 commands_of ended None [] = []
 commands_of ended (Some o) [] = if ended then open_command (words o.heading) ∷ [] else []
 commands_of ended None (line ∷ lines) =
@@ -196,5 +196,5 @@ commands_of ended (Some o) (line ∷ lines) =
 
 -- profile, session commands: the commands of an input; once it has ended, those of all its lines and of a body that it
 -- leaves open, until then those of the lines that have their end
-abbrev pub input_commands : Bool → List ℕ → List Command
+abbrev pub input_commands : Bool → List ℕ → List SessionCommand
 input_commands ended input = commands_of ended None (finished_lines ended (unified input))

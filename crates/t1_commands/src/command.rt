@@ -19,7 +19,7 @@ use t1_source::{Edit, Rule};
 
 /// One command.
 #[derive(Drop)]
-pub enum Command {
+pub enum SessionCommand {
     Edit(Edit),
     Print(Print),
     Show(Show),
@@ -31,7 +31,7 @@ pub enum Command {
 }
 
 /// A line that is no command.
-const UNKNOWN: Command = Command::Broken(Rule::E8);
+const UNKNOWN: SessionCommand = SessionCommand::Broken(Rule::E8);
 
 /// The only word of a line.
 fn one_word(line: &[u8]) -> Option<&[u8]>
@@ -63,30 +63,30 @@ fn three_words(line: &[u8]) -> Option<(&[u8], &[u8], &[u8])>
 }
 
 /// `remove glyph NAME`, after the second word.
-fn glyph_removal(alloc: Global, line: &[u8]) -> Result<Command, AllocError>
+fn glyph_removal(alloc: Global, line: &[u8]) -> Result<SessionCommand, AllocError>
     ensures { Makes result (edit_of edits.RemoveGlyph (one_word (words line.now))) }
 {
     let Some(name) = one_word(line) else {
         return Ok(UNKNOWN);
     };
     let name = Bytes::copied(alloc, name)?;
-    Ok(Command::Edit(Edit::RemoveGlyph(name)))
+    Ok(SessionCommand::Edit(Edit::RemoveGlyph(name)))
 }
 
 /// `remove subr N`, after the second word.
-fn subr_removal(line: &[u8]) -> Command
+fn subr_removal(line: &[u8]) -> SessionCommand
     ensures { result ≡ edit_of (λ number. edits.RemoveSubr (number_of number))
         (one_word (words line.now)) }
 {
     match one_word(line) {
-        Some(number) => Command::Edit(Edit::RemoveSubr(number_of(number))),
+        Some(number) => SessionCommand::Edit(Edit::RemoveSubr(number_of(number))),
         None => UNKNOWN,
     }
 }
 
 /// `remove glyph NAME`, `remove subr N`, after the first word.
 #[tactic(auto, unfolding(crate::specs::Commands::removal))]
-fn removal(alloc: Global, line: &[u8]) -> Result<Command, AllocError>
+fn removal(alloc: Global, line: &[u8]) -> Result<SessionCommand, AllocError>
     ensures { Makes result (removal (words line.now)) }
 {
     let Some((kind, rest)) = next_word(line) else {
@@ -102,19 +102,19 @@ fn removal(alloc: Global, line: &[u8]) -> Result<Command, AllocError>
 }
 
 /// `set leniv N`, after the second word.
-fn lead_setting(line: &[u8]) -> Command
+fn lead_setting(line: &[u8]) -> SessionCommand
     ensures { result ≡ edit_of (λ number. edits.LenIv (number_of number))
         (one_word (words line.now)) }
 {
     match one_word(line) {
-        Some(number) => Command::Edit(Edit::LenIv(number_of(number))),
+        Some(number) => SessionCommand::Edit(Edit::LenIv(number_of(number))),
         None => UNKNOWN,
     }
 }
 
 /// `set leniv N`, after the first word.
 #[tactic(auto, unfolding(crate::specs::Commands::setting))]
-fn setting(line: &[u8]) -> Command
+fn setting(line: &[u8]) -> SessionCommand
     ensures { result ≡ setting (words line.now) }
 {
     let Some((kind, rest)) = next_word(line) else {
@@ -130,21 +130,21 @@ fn setting(line: &[u8]) -> Command
 /// `print source`, `print kern`, `print pfb`, `print pfa`, `print afm`, `print uses`, by the second
 /// word.
 #[tactic(auto, unfolding(crate::specs::Commands::whole_print))]
-fn whole_print(word: &[u8]) -> Command
+fn whole_print(word: &[u8]) -> SessionCommand
     ensures { result ≡ whole_print word.now }
 {
     if word == b"source".as_slice() {
-        Command::Print(Print::Source)
+        SessionCommand::Print(Print::Source)
     } else if word == b"kern".as_slice() {
-        Command::Print(Print::Kern)
+        SessionCommand::Print(Print::Kern)
     } else if word == b"pfb".as_slice() {
-        Command::Print(Print::Pfb)
+        SessionCommand::Print(Print::Pfb)
     } else if word == b"pfa".as_slice() {
-        Command::Print(Print::Pfa)
+        SessionCommand::Print(Print::Pfa)
     } else if word == b"afm".as_slice() {
-        Command::Print(Print::Afm)
+        SessionCommand::Print(Print::Afm)
     } else if word == b"uses".as_slice() {
-        Command::Print(Print::Uses)
+        SessionCommand::Print(Print::Uses)
     } else {
         UNKNOWN
     }
@@ -152,17 +152,17 @@ fn whole_print(word: &[u8]) -> Command
 
 /// `print pfb N`, after the first word.
 #[tactic(auto, unfolding(crate::specs::Commands::blocks_print))]
-fn blocks_print(line: &[u8]) -> Command
+fn blocks_print(line: &[u8]) -> SessionCommand
     ensures { result ≡ blocks_print (two_words (words line.now)) }
 {
     match two_words(line) {
-        Some((b"pfb", number)) => Command::Print(Print::Blocks(number_of(number))),
+        Some((b"pfb", number)) => SessionCommand::Print(Print::Blocks(number_of(number))),
         _ => UNKNOWN,
     }
 }
 
 /// A print, after the first word.
-fn print_of(line: &[u8]) -> Command
+fn print_of(line: &[u8]) -> SessionCommand
     ensures { result ≡ print_of (words line.now) }
 {
     match one_word(line) {
@@ -173,13 +173,13 @@ fn print_of(line: &[u8]) -> Command
 
 /// `show encoding`, `show refusal`, by the second word.
 #[tactic(auto, unfolding(crate::specs::Commands::whole_show))]
-fn whole_show(word: &[u8]) -> Command
+fn whole_show(word: &[u8]) -> SessionCommand
     ensures { result ≡ whole_show word.now }
 {
     if word == b"encoding".as_slice() {
-        Command::Show(Show::Encoding)
+        SessionCommand::Show(Show::Encoding)
     } else if word == b"refusal".as_slice() {
-        Command::Show(Show::Refusal)
+        SessionCommand::Show(Show::Refusal)
     } else {
         UNKNOWN
     }
@@ -188,7 +188,7 @@ fn whole_show(word: &[u8]) -> Command
 /// `show glyph NAME`, `show subr N`, `show metrics NAME`, `show outline NAME`, after the first
 /// word.
 #[tactic(auto, unfolding(crate::specs::Commands::entry_show))]
-fn entry_show(alloc: Global, line: &[u8]) -> Result<Command, AllocError>
+fn entry_show(alloc: Global, line: &[u8]) -> Result<SessionCommand, AllocError>
     ensures { Makes result (entry_show (two_words (words line.now))) }
 {
     let Some((kind, subject)) = two_words(line) else {
@@ -196,24 +196,24 @@ fn entry_show(alloc: Global, line: &[u8]) -> Result<Command, AllocError>
     };
     if kind == b"glyph".as_slice() {
         let name = Bytes::copied(alloc, subject)?;
-        return Ok(Command::Show(Show::Glyph(name)));
+        return Ok(SessionCommand::Show(Show::Glyph(name)));
     }
     if kind == b"subr".as_slice() {
-        return Ok(Command::Show(Show::Subr(number_of(subject))));
+        return Ok(SessionCommand::Show(Show::Subr(number_of(subject))));
     }
     if kind == b"metrics".as_slice() {
         let name = Bytes::copied(alloc, subject)?;
-        return Ok(Command::Show(Show::Metrics(name)));
+        return Ok(SessionCommand::Show(Show::Metrics(name)));
     }
     if kind == b"outline".as_slice() {
         let name = Bytes::copied(alloc, subject)?;
-        return Ok(Command::Show(Show::Outline(name)));
+        return Ok(SessionCommand::Show(Show::Outline(name)));
     }
     Ok(UNKNOWN)
 }
 
 /// A query, after the first word.
-fn show_of(alloc: Global, line: &[u8]) -> Result<Command, AllocError>
+fn show_of(alloc: Global, line: &[u8]) -> Result<SessionCommand, AllocError>
     ensures { Makes result (show_of (words line.now)) }
 {
     match one_word(line) {
@@ -223,7 +223,7 @@ fn show_of(alloc: Global, line: &[u8]) -> Result<Command, AllocError>
 }
 
 /// `encode CODE NAME`, after the first word.
-fn encoding(alloc: Global, line: &[u8]) -> Result<Command, AllocError>
+fn encoding(alloc: Global, line: &[u8]) -> Result<SessionCommand, AllocError>
     ensures { Makes result (edit_of (λ w. edits.Encode (number_of w.0) w.1)
         (two_words (words line.now))) }
 {
@@ -231,22 +231,22 @@ fn encoding(alloc: Global, line: &[u8]) -> Result<Command, AllocError>
         return Ok(UNKNOWN);
     };
     let name = Bytes::copied(alloc, name)?;
-    Ok(Command::Edit(Edit::Encode(number_of(code), name)))
+    Ok(SessionCommand::Edit(Edit::Encode(number_of(code), name)))
 }
 
 /// `unencode CODE`, after the first word.
-fn unencoding(line: &[u8]) -> Command
+fn unencoding(line: &[u8]) -> SessionCommand
     ensures { result
         ≡ edit_of (λ code. edits.Unencode (number_of code)) (one_word (words line.now)) }
 {
     match one_word(line) {
-        Some(code) => Command::Edit(Edit::Unencode(number_of(code))),
+        Some(code) => SessionCommand::Edit(Edit::Unencode(number_of(code))),
         None => UNKNOWN,
     }
 }
 
 /// `kern LEFT RIGHT N`, after the first word.
-fn kerning(alloc: Global, line: &[u8]) -> Result<Command, AllocError>
+fn kerning(alloc: Global, line: &[u8]) -> Result<SessionCommand, AllocError>
     ensures { Makes result (edit_of (λ w. edits.Kern w.0 w.1 (number_of w.2))
         (three_words (words line.now))) }
 {
@@ -255,11 +255,11 @@ fn kerning(alloc: Global, line: &[u8]) -> Result<Command, AllocError>
     };
     let left = Bytes::copied(alloc, left)?;
     let right = Bytes::copied(alloc, right)?;
-    Ok(Command::Edit(Edit::Kern(left, right, number_of(value))))
+    Ok(SessionCommand::Edit(Edit::Kern(left, right, number_of(value))))
 }
 
 /// `unkern LEFT RIGHT`, after the first word.
-fn unkerning(alloc: Global, line: &[u8]) -> Result<Command, AllocError>
+fn unkerning(alloc: Global, line: &[u8]) -> Result<SessionCommand, AllocError>
     ensures { Makes result (edit_of (λ w. edits.Unkern w.0 w.1) (two_words (words line.now))) }
 {
     let Some((left, right)) = two_words(line) else {
@@ -267,11 +267,11 @@ fn unkerning(alloc: Global, line: &[u8]) -> Result<Command, AllocError>
     };
     let left = Bytes::copied(alloc, left)?;
     let right = Bytes::copied(alloc, right)?;
-    Ok(Command::Edit(Edit::Unkern(left, right)))
+    Ok(SessionCommand::Edit(Edit::Unkern(left, right)))
 }
 
 /// A command without further words.
-fn lone(command: Command, line: &[u8]) -> Command
+fn lone(command: SessionCommand, line: &[u8]) -> SessionCommand
     ensures { result ≡ lone command (words line.now) }
 {
     match next_word(line) {
@@ -282,17 +282,17 @@ fn lone(command: Command, line: &[u8]) -> Command
 
 /// A command that is no edit and no query, by its first word, after that word.
 #[tactic(auto, unfolding(crate::specs::Commands::other_command))]
-fn other_command(verb: &[u8], line: &[u8]) -> Command
+fn other_command(verb: &[u8], line: &[u8]) -> SessionCommand
     ensures { result ≡ other_command verb.now (words line.now) }
 {
     if verb == b"print".as_slice() {
         print_of(line)
     } else if verb == b"begin".as_slice() {
-        lone(Command::Begin, line)
+        lone(SessionCommand::Begin, line)
     } else if verb == b"commit".as_slice() {
-        lone(Command::Commit, line)
+        lone(SessionCommand::Commit, line)
     } else if verb == b"abort".as_slice() {
-        lone(Command::Abort, line)
+        lone(SessionCommand::Abort, line)
     } else {
         UNKNOWN
     }
@@ -300,7 +300,7 @@ fn other_command(verb: &[u8], line: &[u8]) -> Command
 
 /// The command of a line that takes no body. An unknown one takes no memory.
 #[tactic(auto, unfolding(crate::specs::Commands::line_command))]
-pub fn line_command(alloc: Global, line: &[u8]) -> Result<Command, AllocError>
+pub fn line_command(alloc: Global, line: &[u8]) -> Result<SessionCommand, AllocError>
     ensures { Makes result (line_command (words line.now)) }
 {
     let Some((verb, rest)) = next_word(line) else {
@@ -356,22 +356,26 @@ fn bodied_edit(
 
 /// The command of a line that takes a body, and its whole body.
 #[tactic(auto, unfolding(crate::specs::Commands::body_command, crate::specs::Commands::bodied_edit))]
-pub fn body_command(alloc: Global, heading: &[u8], body: Bytes) -> Result<Command, AllocError>
+pub fn body_command(
+    alloc: Global,
+    heading: &[u8],
+    body: Bytes,
+) -> Result<SessionCommand, AllocError>
     ensures { Makes result (body_command (words heading.now) body) }
 {
     let Some((verb, kind, subject)) = three_words(heading) else {
         return Ok(UNKNOWN);
     };
-    Ok(Command::Edit(bodied_edit(alloc, verb, kind, subject, body)?))
+    Ok(SessionCommand::Edit(bodied_edit(alloc, verb, kind, subject, body)?))
 }
 
 /// The command of a line whose body the input left open.
 #[tactic(auto, unfolding(crate::specs::Commands::open_command))]
-pub fn open_command(heading: &[u8]) -> Command
+pub fn open_command(heading: &[u8]) -> SessionCommand
     ensures { result ≡ open_command (words heading.now) }
 {
     match three_words(heading) {
-        Some(_) => Command::Broken(Rule::E7),
+        Some(_) => SessionCommand::Broken(Rule::E7),
         None => UNKNOWN,
     }
 }

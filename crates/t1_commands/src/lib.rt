@@ -1,7 +1,7 @@
 //! The commands of a session, by the words of their lines, and what they are answered.
 //!
-//! [`line_command`] and [`body_command`] make the [`Command`] of a line, and of a line with its
-//! body. [`put_answer`] writes an [`Answer`], [`put_fault`] a fault as answers have it;
+//! [`line_command`] and [`body_command`] make the [`SessionCommand`] of a line, and of a line with
+//! its body. [`put_answer`] writes an [`Answer`], [`put_fault`] a fault as answers have it;
 //! [`push_fault`] and [`push_rule`] add these to a text. [`PfbData`] and [`PfaData`] are the forms
 //! of a font file that is an answer, and not made in memory.
 //!
@@ -18,7 +18,7 @@ mod show;
 
 pub use answer::{Answer, answer_of, push_fault, push_rule, push_slices, put_answer, put_fault};
 pub use command::{
-    Command, body_command, ends_body, is_blank_line, line_command, open_command, takes_body,
+    SessionCommand, body_command, ends_body, is_blank_line, line_command, open_command, takes_body,
 };
 pub use data::{PfaData, PfbData};
 pub use numbers::{block_size, block_size_of_word};

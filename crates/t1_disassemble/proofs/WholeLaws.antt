@@ -7,7 +7,7 @@ use Rattle.std.specs.List.{list_all, list_any, flat_map}
 use Rattle.std.specs.Prelude.{is_some, nat_le, unwrap_or}
 use Rattle.t1_frac.specs.Outcome.{◌>>=◌}
 use Rattle.t1_frac.specs.declared.fault.Code.{Code}
-use Rattle.t1_text.specs.Lines.{is_line, lines, joined}
+use Rattle.t1_text.specs.Lines.{is_line, lines, joined, before_rest}
 use Rattle.t1_text.proofs.LineLaws.{first_line_lem}
 use Rattle.t1_text.proofs.TextLaws.{lines_joined}
 use Rattle.t1_code.specs.Cipher.{eexec}
@@ -23,7 +23,7 @@ use Rattle.t1_disassemble.specs.declared.fault.FontFault.{FontFault}
 use Rattle.t1_disassemble.specs.Decipher.{decrypted_private}
 use Rattle.t1_disassemble.specs.Digits.{digit_value, is_hexadecimal}
 use Rattle.t1_disassemble.specs.Disassembly.{coded_bytes, tail_after, coded_source, source_of, disassembled}
-use Rattle.t1_disassemble.specs.Front.{past_line, after_eexec_line, after_eexec_words, first_of, after_eexec, before_rest, past_spaces}
+use Rattle.t1_disassemble.specs.Front.{past_line, after_eexec_line, after_eexec_words, first_of, after_eexec, past_spaces}
 use Rattle.t1_disassemble.specs.Kinds.{plain_kind, single_sections}
 use Rattle.t1_disassemble.specs.Laws.{plain_item, items_text, reads_line, reads_item, front_lines, source_lines, EndsWithEexec, IsReadBack}
 use Rattle.t1_disassemble.specs.PiecesOnto.{private_onto}

@@ -1,7 +1,7 @@
 -- The source of a font's file.
 use Rattle.std.specs.Prelude.{ℕ, ◌+◌, ◌*◌, ◌-◌, ◌==◌, if◌then◌else◌, Option, None, Some, List, ◌++◌, drop, length, Result, Ok, Err}
 use Rattle.t1_frac.specs.Outcome.{◌>>=◌}
-use Rattle.t1_text.specs.Lines.{lines, joined}
+use Rattle.t1_text.specs.Lines.{lines, joined, before_rest}
 use Rattle.t1_parts.specs.Parts.{tail_of}
 use Rattle.t1_disassemble.specs.declared.fault.FontCode.TheVariants.{D1}
 use Rattle.t1_disassemble.specs.declared.fault.FontFault.{FontFault}
@@ -9,7 +9,7 @@ use Rattle.t1_disassemble.specs.declared.fault.FontPlace.TheVariants.{Nowhere}
 use Rattle.t1_disassemble.specs.CutDigits.{with_digits}
 use Rattle.t1_disassemble.specs.Decipher.{decrypted_private}
 use Rattle.t1_disassemble.specs.Digits.{digit_bytes, after_digits, is_hexadecimal}
-use Rattle.t1_disassemble.specs.Front.{after_eexec, before_rest, past_line, past_spaces}
+use Rattle.t1_disassemble.specs.Front.{after_eexec, past_line, past_spaces}
 use Rattle.t1_disassemble.specs.Kinds.{plain_kind, single_sections}
 use Rattle.t1_disassemble.specs.Outcome.{font_fault_at, font_reported_at}
 use Rattle.t1_disassemble.specs.PrivateText.{read_private_text}

@@ -1,5 +1,5 @@
 -- The line at the front of some bytes, and the part of a font that ends with its eexec line.
-use Rattle.std.specs.Prelude.{◌==◌, ◌||◌, ℕ, ◌+◌, ◌-◌, nat_lt, Bool, if◌then◌else◌, length, List, take, drop, find, codes, Option, None, Some, option_map}
+use Rattle.std.specs.Prelude.{◌==◌, ◌||◌, ℕ, ◌+◌, nat_lt, Bool, if◌then◌else◌, length, List, take, drop, find, codes, Option, None, Some, option_map}
 use Rattle.std.specs.List.{position_or_len, prefix_len}
 use Rattle.t1_frac.specs.Ascii.{tab, line_feed, carriage_return, space}
 use Rattle.t1_text.specs.Lines.{is_line_end, after_end}
@@ -40,10 +40,6 @@ first_of (Some found) other = Some found
 -- Type 1 Font Format, 2.4 (eexec): what stands after the clear text: after its eexec line, or, where no line ends so, on it
 abbrev pub after_eexec : List ℕ → Option (List ℕ)
 after_eexec bytes = first_of (after_eexec_line bytes) (after_eexec_words bytes)
-
--- profile: the bytes in front of the rest of some bytes
-abbrev pub before_rest : List ℕ → List ℕ → List ℕ
-before_rest bytes rest = take (length bytes - length rest) bytes
 
 -- Type 1 Font Format, 7.2 (eexec): a space, a tab, CR and LF may stand between eexec and the encrypted bytes
 abbrev pub is_space : ℕ → Bool

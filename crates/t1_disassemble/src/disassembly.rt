@@ -22,7 +22,9 @@ use crate::fault::{FontCode, FontFault, FontPlace, FontRefusal};
 use crate::front::{after_eexec, is_space, past, past_line, past_spaces};
 use crate::kinds::{check_kind, check_sections};
 use crate::private::{Settings, push_private};
-use crate::segments::{LentParts, Parts, front_lens, has_segments, segmented_parts, text_left};
+use crate::segments::{
+    JoinedParts, LentParts, front_lens, has_segments, segmented_parts, text_left,
+};
 use crate::settings::{leading_bytes, reading_operator};
 use std::alloc::{AllocError, Global};
 use t1_parts::{push_line, push_lines, tail_of};
@@ -399,7 +401,7 @@ fn source_of_segments(alloc: Global, file: &[u8]) -> Result<Vec<u8>, FontRefusal
     requires { begins_with marker file.now ≡ true }
     ensures { GivesFont (λ text. text.items) result (disassembled file.now) }
 {
-    let Parts { clear, coded, tail } = segmented_parts(alloc, file)?;
+    let JoinedParts { clear, coded, tail } = segmented_parts(alloc, file)?;
     let mut coded = coded;
     source_of_parts(alloc, &clear, &mut coded, &tail)
 }

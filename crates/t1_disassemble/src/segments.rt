@@ -117,13 +117,13 @@ fn placed_segment(total: usize, rest: &[u8]) -> Result<Option<Found<'_>>, FontFa
 
 /// The clear text of a font, its encrypted part, and the text after it.
 #[derive(Debug, Drop)]
-pub(crate) struct Parts {
+pub(crate) struct JoinedParts {
     pub(crate) clear: Vec<u8>,
     pub(crate) coded: Vec<u8>,
     pub(crate) tail: Vec<u8>,
 }
 
-impl Model for Parts {
+impl Model for JoinedParts {
     ghost use Rattle.t1_disassemble.specs.SegmentsRead.{FontParts};
 
     ghost Value = { FontParts };
@@ -135,12 +135,12 @@ impl Model for Parts {
     } };
 }
 
-impl Parts {
+impl JoinedParts {
     /// No bytes yet.
-    fn new(alloc: Global) -> Parts
+    fn new(alloc: Global) -> JoinedParts
         ensures { result ≡ no_parts }
     {
-        Parts {
+        JoinedParts {
             clear: Vec::new(alloc),
             coded: Vec::new(alloc),
             tail: Vec::new(alloc),
@@ -178,13 +178,13 @@ pub(crate) fn has_segments(file: &[u8]) -> bool
 
 /// The parts that the segments of a file hold.
 #[tactic(auto, using(crate::proofs::Segmented::parts_more))]
-pub(crate) fn segmented_parts(alloc: Global, bytes: &[u8]) -> Result<Parts, FontRefusal>
+pub(crate) fn segmented_parts(alloc: Global, bytes: &[u8]) -> Result<JoinedParts, FontRefusal>
     ensures { GivesFont
         (λ parts. parts)
         result
         (parts_onto no_parts (segments_of (length bytes.now) bytes.now)) }
 {
-    let mut parts = Parts::new(alloc);
+    let mut parts = JoinedParts::new(alloc);
     let mut rest = bytes;
     loop {
         let Some(found) = placed_segment(bytes.len(), rest)? else {

@@ -19,7 +19,8 @@ use Rattle.t1_faults.specs.declared.call_chains.CallChain.{CallChain}
 use Rattle.t1_faults.specs.declared.found.FoundFault.{FoundFault}
 use Rattle.t1_faults.specs.Composites.{OwnRuns, composites_of, each_with, faulty_of_run, faulty_under, faulty_within, found_of_parts, is_chain_of, is_first_naming, names_glyph, with_composites, with_names}
 use Rattle.t1_chain.specs.GlyphFailures.{parts_found}
-use Rattle.t1_faults.specs.GlyphRuns.{composites_on, each_numbered, first_naming, is_number_met, names_kept}
+use Rattle.t1_faults.specs.GlyphRuns.{composites_on, each_numbered, first_naming, names_kept}
+use Rattle.t1_run.specs.RunKeys.{has_number}
 use Rattle.t1_faults.specs.Telling.{IsAccountedFor, IsMet, IsTold, TellsWord}
 use Rattle.t1_faults.proofs.KeptLaws.{same_turned}
 
@@ -141,21 +142,21 @@ name_added n s name old mid new taken put is others added all = by (nat_eq n s) 
       ∙ ap (λ b. old n ++ cond b (name ∷ []) []) (sym e)
 
 -- a number that comes again later
-pub again_later : (n s : ℕ) (after : List ℕ) → is_number_met after s ≡ true → is_number_met after n ≡ (nat_eq n s || is_number_met after n)
+pub again_later : (n s : ℕ) (after : List ℕ) → has_number after s ≡ true → has_number after n ≡ (nat_eq n s || has_number after n)
 again_later n s after later = by (nat_eq n s) refl where
-  by : (b : Bool) → nat_eq n s ≡ b → is_number_met after n ≡ (b || is_number_met after n)
-  by true e = ap (is_number_met after) (numbers_tell.same n s e) ∙ later
+  by : (b : Bool) → nat_eq n s ≡ b → has_number after n ≡ (b || has_number after n)
+  by true e = ap (has_number after) (numbers_tell.same n s e) ∙ later
   by false e = refl
 
 -- one that doesn't
-pub last_time : (n s : ℕ) (after : List ℕ) (name : List ℕ) (old new : List (List ℕ)) → is_number_met after s ≡ false → new ≡ old ++ cond (nat_eq n s) (name ∷ []) []
-    → new ++ cond (is_number_met after n) (name ∷ []) [] ≡ old ++ cond (nat_eq n s || is_number_met after n) (name ∷ []) []
-last_time n s after name old new last put = ap (λ t. t ++ cond (is_number_met after n) (name ∷ []) []) put ∙ by (nat_eq n s) refl where
-  by : (b : Bool) → nat_eq n s ≡ b → (old ++ cond b (name ∷ []) []) ++ cond (is_number_met after n) (name ∷ []) [] ≡ old ++ cond (b || is_number_met after n) (name ∷ []) []
+pub last_time : (n s : ℕ) (after : List ℕ) (name : List ℕ) (old new : List (List ℕ)) → has_number after s ≡ false → new ≡ old ++ cond (nat_eq n s) (name ∷ []) []
+    → new ++ cond (has_number after n) (name ∷ []) [] ≡ old ++ cond (nat_eq n s || has_number after n) (name ∷ []) []
+last_time n s after name old new last put = ap (λ t. t ++ cond (has_number after n) (name ∷ []) []) put ∙ by (nat_eq n s) refl where
+  by : (b : Bool) → nat_eq n s ≡ b → (old ++ cond b (name ∷ []) []) ++ cond (has_number after n) (name ∷ []) [] ≡ old ++ cond (b || has_number after n) (name ∷ []) []
   by true e =
-      let none : is_number_met after n ≡ false = ap (is_number_met after) (numbers_tell.same n s e) ∙ last in
+      let none : has_number after n ≡ false = ap (has_number after) (numbers_tell.same n s e) ∙ last in
       ap (λ b. (old ++ name ∷ []) ++ cond b (name ∷ []) []) none ∙ append-nil (old ++ name ∷ [])
-  by false e = ap (λ t. t ++ cond (is_number_met after n) (name ∷ []) []) (append-nil old)
+  by false e = ap (λ t. t ++ cond (has_number after n) (name ∷ []) []) (append-nil old)
 
 one_kept : (kept : List (List ℕ)) (b : Bool) (name : List ℕ) (rest : List (List ℕ)) → (kept ++ cond b (name ∷ []) []) ++ rest ≡ kept ++ cond b (name ∷ rest) rest
 one_kept kept true name rest = append_assoc kept (name ∷ []) rest
@@ -163,13 +164,13 @@ one_kept kept false name rest = ap (λ t. t ++ rest) (append-nil kept)
 
 -- one glyph more
 pub glyph_next : (numbers : List ℕ → Option ℕ) (run : OwnRuns) (glyphs : List (Bor (List ℕ))) (i n : ℕ) (x : Bor (List ℕ)) (under : List ℕ) (old new whole : List (List ℕ)) → i < length glyphs
-    → drop i glyphs ≡ x ∷ drop (i + 1) glyphs → under ≡ filter_map numbers (faulty_under run x.now) → new ≡ old ++ cond (is_number_met under n) (x.now ∷ []) []
+    → drop i glyphs ≡ x ∷ drop (i + 1) glyphs → under ≡ filter_map numbers (faulty_under run x.now) → new ≡ old ++ cond (has_number under n) (x.now ∷ []) []
     → old ++ composites_on numbers run (map (λ name. name.now) (drop i glyphs)) n ≡ whole
     → new ++ composites_on numbers run (map (λ name. name.now) (drop (i + 1) glyphs)) n ≡ whole
 glyph_next numbers run glyphs i n x under old new whole inside left is put before =
     let later = composites_on numbers run (map (λ name. name.now) (drop (i + 1) glyphs)) n in
-    ap (λ t. t ++ later) (put ∙ ap (λ u. old ++ cond (is_number_met u n) (x.now ∷ []) []) is)
-    ∙ one_kept old (is_number_met (filter_map numbers (faulty_under run x.now)) n) x.now later
+    ap (λ t. t ++ later) (put ∙ ap (λ u. old ++ cond (has_number u n) (x.now ∷ []) []) is)
+    ∙ one_kept old (has_number (filter_map numbers (faulty_under run x.now)) n) x.now later
     ∙ ap (λ gs. old ++ composites_on numbers run (map (λ name. name.now) gs) n) (sym left)
     ∙ before
 
@@ -254,10 +255,10 @@ number_tells s (first ∷ before) faults fault g = by (number_tells (s + 1) befo
 
 -- a number is among those of glyphs where one of them has it
 some_numbered : (numbers : List ℕ → Option ℕ) (n : ℕ) (test : List ℕ → Bool) → ((g : List ℕ) → is_numbered n (numbers g) ≡ test g) → (gs : List (List ℕ))
-    → is_number_met (filter_map numbers gs) n ≡ list_any test gs
+    → has_number (filter_map numbers gs) n ≡ list_any test gs
 some_numbered numbers n test same [] = refl
-some_numbered numbers n test same (g ∷ gs) = by (numbers g) ∙ ap (λ b. b || is_number_met (filter_map numbers gs) n) (same g) ∙ ap (λ b. test g || b) (some_numbered numbers n test same gs) where
-  by : (o : Option ℕ) → is_number_met (cons_option o (filter_map numbers gs)) n ≡ (is_numbered n o || is_number_met (filter_map numbers gs) n)
+some_numbered numbers n test same (g ∷ gs) = by (numbers g) ∙ ap (λ b. b || has_number (filter_map numbers gs) n) (same g) ∙ ap (λ b. test g || b) (some_numbered numbers n test same gs) where
+  by : (o : Option ℕ) → has_number (cons_option o (filter_map numbers gs)) n ≡ (is_numbered n o || has_number (filter_map numbers gs) n)
   by None = refl
   by (Some m) = refl
 
@@ -266,7 +267,7 @@ same_composites : (run : OwnRuns) (glyphs : List (List ℕ)) (before faults : Li
 same_composites run glyphs before faults fault =
     let numbers = first_naming 0 (before ++ fault ∷ faults) in
     let from_0 : 0 + length before ≡ length before = omega arith in
-    let same : (λ (g : List ℕ). is_number_met (filter_map numbers (faulty_under run g)) (length before)) ≡ (λ g. list_any (is_first_naming before fault) (faulty_under run g)) =
+    let same : (λ (g : List ℕ). has_number (filter_map numbers (faulty_under run g)) (length before)) ≡ (λ g. list_any (is_first_naming before fault) (faulty_under run g)) =
     λ j. λ g. some_numbered numbers (length before) (is_first_naming before fault) (λ p. ap (λ n. is_numbered n (numbers p)) (sym from_0) ∙ number_tells 0 before faults fault p) (faulty_under run g) j in
     ap (λ test. filter test glyphs) same
 

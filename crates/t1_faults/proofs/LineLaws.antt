@@ -19,7 +19,7 @@ use Rattle.t1_parts.specs.Counts.{raised}
 use Rattle.t1_parts.specs.Encoding.{array_check, array_lines, clear_check, encoding_check, ends_array, is_array, is_standard, later_check, lines_check, opening_check, opens_encoding}
 use Rattle.t1_parts.specs.Entries.{NumberedItem, Taken, has_numbered}
 use Rattle.t1_parts.specs.LenIV.{lead_check, lead_of_token, said_lead, said_with_line}
-use Rattle.t1_parts.specs.Parts.{Parts, is_closefile, is_eexec, parts_of, tail_of}
+use Rattle.t1_parts.specs.Parts.{ThreeParts, is_closefile, is_eexec, parts_of, tail_of}
 use Rattle.t1_parts.specs.Private.{item_in_front, items_after, items_of, private_items}
 use Rattle.t1_parts.specs.Reading.{reads, reads_lines, unnumbered, whole_check}
 use Rattle.t1_parts.specs.Sections.{is_glyphs_line}
@@ -203,7 +203,7 @@ whole_in low high items h =
 -- ---- a source
 
 -- the parts of some lines are all of them
-pub parts_whole : (ls : List (List ℕ)) (p : Parts) → parts_of ls ≡ Ok p → ls ≡ p.clear ++ (p.private ++ p.tail)
+pub parts_whole : (ls : List (List ℕ)) (p : ThreeParts) → parts_of ls ≡ Ok p → ls ≡ p.clear ++ (p.private ++ p.tail)
 unfolding parts_of
 parts_whole ls p e =
     let a = bind_ok (ok_or (position is_eexec ls) (fault_at places.Nowhere F1)) (λ (eexec : ℕ). ok_or (position is_closefile (drop (eexec + 1) ls)) (fault_at places.Nowhere F2) >>= λ (closefile : ℕ).
@@ -214,22 +214,22 @@ parts_whole ls p e =
     })) p e in
     let after = drop (a.0 + 1) ls in
     let b = bind_ok (ok_or (position is_closefile after) (fault_at places.Nowhere F2)) (λ (closefile : ℕ). Ok (record { clear = take (a.0 + 1) ls; private = take (closefile + 1) after; tail = drop (closefile + 1) after })) p a.2 in
-    let made : Parts = record { clear = take (a.0 + 1) ls; private = take (b.0 + 1) after; tail = drop (b.0 + 1) after } in
-    let last : ◌≡◌ {A = Result Parts Fault} (Ok made) (Ok p) = b.2 in
+    let made : ThreeParts = record { clear = take (a.0 + 1) ls; private = take (b.0 + 1) after; tail = drop (b.0 + 1) after } in
+    let last : ◌≡◌ {A = Result ThreeParts Fault} (Ok made) (Ok p) = b.2 in
     let same : made ≡ p = cc in
-    subst (λ (q : Parts). ls ≡ q.clear ++ (q.private ++ q.tail)) same
+    subst (λ (q : ThreeParts). ls ≡ q.clear ++ (q.private ++ q.tail)) same
     (sym (take-append-drop (a.0 + 1) ls) ∙ ap (λ t. take (a.0 + 1) ls ++ t) (sym (take-append-drop (b.0 + 1) after)))
 
 parts_in : (low high : ℕ) (ls : List (List ℕ)) → FaultsIn low high (parts_of ls)
 unfolding parts_of
 parts_in low high ls =
-    then_in {B = Parts} low high (ok_or (position is_eexec ls) (fault_at places.Nowhere F1)) (λ (eexec : ℕ). ok_or (position is_closefile (drop (eexec + 1) ls)) (fault_at places.Nowhere F2) >>= λ (closefile : ℕ).
+    then_in {B = ThreeParts} low high (ok_or (position is_eexec ls) (fault_at places.Nowhere F1)) (λ (eexec : ℕ). ok_or (position is_closefile (drop (eexec + 1) ls)) (fault_at places.Nowhere F2) >>= λ (closefile : ℕ).
     Ok (record {
       clear = take (eexec + 1) ls;
       private = take (closefile + 1) (drop (eexec + 1) ls);
       tail = drop (closefile + 1) (drop (eexec + 1) ls);
     })) (nowhere_in low high F1 (position is_eexec ls)) (λ eexec. λ e.
-    then_in {B = Parts} low high (ok_or (position is_closefile (drop (eexec + 1) ls)) (fault_at places.Nowhere F2)) (λ (closefile : ℕ).
+    then_in {B = ThreeParts} low high (ok_or (position is_closefile (drop (eexec + 1) ls)) (fault_at places.Nowhere F2)) (λ (closefile : ℕ).
     Ok (record {
       clear = take (eexec + 1) ls;
       private = take (closefile + 1) (drop (eexec + 1) ls);
@@ -242,7 +242,7 @@ source_in ls =
     then_in {B = SourceParts} 1 (1 + length ls) (parts_of ls) (λ parts. clear_check parts.clear >>= λ encoded. private_items (length parts.clear + 1) parts.private >>= λ items. whole_check items >>= λ whole.
     Ok (record { clear = parts.clear; items = raised (unnumbered items); tail = tail_of parts.tail })) (parts_in 1 (1 + length ls) ls) cut
   where
-    cut : (p : Parts) → parts_of ls ≡ Ok p → FaultsIn {X = SourceParts} 1 (1 + length ls) (clear_check p.clear >>= λ encoded. private_items (length p.clear + 1) p.private >>= λ items. whole_check items >>= λ whole.
+    cut : (p : ThreeParts) → parts_of ls ≡ Ok p → FaultsIn {X = SourceParts} 1 (1 + length ls) (clear_check p.clear >>= λ encoded. private_items (length p.clear + 1) p.private >>= λ items. whole_check items >>= λ whole.
         Ok (record { clear = p.clear; items = raised (unnumbered items); tail = tail_of p.tail }))
     cut p e =
         let high = 1 + length ls in

@@ -27,7 +27,7 @@ use Rattle.t1_font.proofs.InTurnLaws.{names-known}
 use Rattle.t1_font.proofs.Lookups.{numbers_tell}
 use Rattle.t1_font.proofs.Measuring.{own-none, same-function}
 use Rattle.t1_faults.specs.Failing.{is_faulty_subr}
-use Rattle.t1_faults.specs.GlyphRuns.{is_number_met}
+use Rattle.t1_run.specs.RunKeys.{has_number}
 use Rattle.t1_faults.specs.ToRun.{glyph_run_in}
 
 pub run_first : (item : Item) (items : List Item) (g : List ℕ) → glyph_to_run (item ∷ items) g ≡ option_or (glyph_run_in item g) (glyph_to_run items g)
@@ -63,7 +63,7 @@ pub faulty_alone : (n : ℕ) (items : List Item) → list_any (is_faulty_subr n)
 faulty_alone n items = same_alone (list_any (is_faulty_subr n)) (λ l is. refl) (λ item xs ys e. ap (λ b. is_faulty_subr n item || b) e) items
 
 -- a number that is put in is among the numbers
-pub number_inserted : (n k : ℕ) (ks : List ℕ) → is_number_met (insert_key nat_eq ks k) n ≡ (is_number_met ks n || nat_eq n k)
+pub number_inserted : (n k : ℕ) (ks : List ℕ) → has_number (insert_key nat_eq ks k) n ≡ (has_number ks n || nat_eq n k)
 number_inserted n k ks =
     elim (cases_Bool (list_any (nat_eq k) ks)) [
       | inl there ↦

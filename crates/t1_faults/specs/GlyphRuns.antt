@@ -1,6 +1,6 @@
 -- The runs of the glyphs of a source, as the code holds them.
 use Rattle.std.specs.Prelude.{ℕ, ◌+◌, nat_eq, Bool, ◌&&◌, if◌then◌else◌, List, [], ◌∷◌, ◌++◌, filter_map, Option, None, Some}
-use Rattle.std.specs.List.{filter, list_any}
+use Rattle.std.specs.List.{filter}
 use Rattle.std.specs.Map.{lookup}
 use Rattle.std.specs.Str.{bytes_eq}
 use Rattle.std.specs.declared.vec.Vec.{Vec}
@@ -18,13 +18,9 @@ use Rattle.t1_faults.specs.Composites.{OwnRuns, faulty_under, names_glyph, with_
 use Rattle.t1_faults.specs.Failing.{Failures, told_by}
 use Rattle.t1_chain.specs.GlyphFailures.{GlyphFailure}
 
--- word: a number is among these
-abbrev pub is_number_met : List ℕ → ℕ → Bool
-is_number_met numbers n = list_any (nat_eq n) numbers
-
 -- word: whether the words of the Subr of this number have a fault
 abbrev pub is_faulty : GlyphRuns → ℕ → Bool
-is_faulty runs = is_number_met runs.faulty.keys
+is_faulty runs = has_number runs.faulty.keys
 
 -- word: where and why the runs fail, and that is told
 abbrev pub failures_of : GlyphRuns → Failures
@@ -79,7 +75,7 @@ first_naming n (fault ∷ faults) g = if names_glyph g fault then Some n else fi
 
 -- word: the composites among these glyphs that stand on a glyph with a fault and this number
 abbrev pub composites_on : (List ℕ → Option ℕ) → OwnRuns → List (List ℕ) → ℕ → List (List ℕ)
-composites_on numbers run glyphs n = filter (λ g. is_number_met (filter_map numbers (faulty_under run g)) n) glyphs
+composites_on numbers run glyphs n = filter (λ g. has_number (filter_map numbers (faulty_under run g)) n) glyphs
 
 -- word: these faults, of which the first has the number n, each with the composites of its number
 abbrev pub each_numbered : (ℕ → List (List ℕ)) → ℕ → List FoundFault → List FoundFault

@@ -7,7 +7,7 @@ use Rattle.t1_frac.specs.declared.fault.Fault.{Fault}
 use Rattle.t1_frac.specs.declared.fault.Place.{Place}
 use Rattle.t1_frac.specs.declared.fault.Place.TheVariants as places
 use Rattle.t1_text.specs.Lines.{lines}
-use Rattle.t1_parts.specs.Parts.{Parts, parts_of}
+use Rattle.t1_parts.specs.Parts.{ThreeParts, parts_of}
 use Rattle.t1_parts.specs.Reading.{reads}
 use Rattle.t1_parts.specs.SourceParts.{SourceParts}
 use Rattle.t1_run.specs.declared.outline.Composite.{Composite}
@@ -85,7 +85,7 @@ faults_by failed run s entries =
     ++ (file_faults (bodies_check s.items) (file_check s) ++ flat_map (join_faults run) entries)
 
 -- profile, places: the entries of a source in its lines, of which these are the parts; none where the lines have no parts
-abbrev pub entries_in : Result Parts Fault → SourceParts → List Entry
+abbrev pub entries_in : Result ThreeParts Fault → SourceParts → List Entry
 entries_in (Ok parts) s = entries_from (length s.clear + 1) (take (length parts.private - 1) parts.private) s.items
 entries_in (Err fault) s = []
 

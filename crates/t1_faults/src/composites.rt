@@ -11,7 +11,8 @@ ghost use Rattle.t1_faults.specs.Composites.{faulty_under, faulty_within, is_cha
 ghost use Rattle.t1_faults.specs.Composites.{is_place_of_glyph, names_glyph, with_composites};
 ghost use Rattle.t1_faults.specs.Composites.{with_names};
 ghost use Rattle.t1_faults.specs.GlyphRuns.{composites_kept, composites_on, each_numbered};
-ghost use Rattle.t1_faults.specs.GlyphRuns.{first_naming, is_number_met, number_kept};
+ghost use Rattle.t1_faults.specs.GlyphRuns.{first_naming, number_kept};
+ghost use Rattle.t1_run.specs.RunKeys.{has_number};
 
 use crate::call_chains::CallChain;
 use crate::found::FoundFault;
@@ -203,7 +204,7 @@ fn numbers_under(
 
 /// Whether a number is among others.
 fn has_number(numbers: &[usize], number: usize) -> bool
-    ensures { result ≡ is_number_met numbers.now number }
+    ensures { result ≡ has_number numbers.now number }
 {
     numbers.iter().any(|other| number == *other)
 }
@@ -259,9 +260,9 @@ fn add_last(
     name: &[u8],
 ) -> Result<(), AllocError>
     ensures { OnOk result ((n : ℕ) → composites_kept composites.new.entries n
-        ++ (if is_number_met after.now n then name.now ∷ [] else [])
+        ++ (if has_number after.now n then name.now ∷ [] else [])
         ≡ composites_kept composites.old.entries n
-        ++ (if nat_eq n number || is_number_met after.now n then name.now ∷ [] else [])) }
+        ++ (if nat_eq n number || has_number after.now n then name.now ∷ [] else [])) }
 {
     if has_number(after, number) {
         return Ok(());
@@ -279,7 +280,7 @@ fn add_to_each(
 ) -> Result<(), AllocError>
     ensures { OnOk result ((n : ℕ) → composites_kept composites.new.entries n
         ≡ composites_kept composites.old.entries n
-        ++ (if is_number_met numbers.now n then name.now ∷ [] else [])) }
+        ++ (if has_number numbers.now n then name.now ∷ [] else [])) }
 {
     let mut rest = numbers;
     while let Some((number, after)) = rest.split_first() {

@@ -13,7 +13,8 @@ ghost use Rattle.t1_font.specs.KeptBodies.{glyph_body_kept, plain_bodies, subr_b
 ghost use Rattle.t1_font.specs.Runs.{drawing_in};
 ghost use Rattle.t1_font.specs.ToRun.{commands_or_none, font_to_run, glyph_to_run};
 ghost use Rattle.t1_faults.specs.Failing.{failures_in, is_faulty_subr};
-ghost use Rattle.t1_faults.specs.GlyphRuns.{failures_of, is_number_met};
+ghost use Rattle.t1_faults.specs.GlyphRuns.{failures_of};
+ghost use Rattle.t1_run.specs.RunKeys.{has_number};
 ghost use Rattle.t1_faults.specs.ToRun.{glyph_run_in};
 
 use crate::glyph_runs::GlyphRuns;
@@ -153,7 +154,7 @@ fn own_runs<'a>(alloc: Global, bodies: &Plain, items: &'a Items) -> Result<Runs<
 /// Adds a number to others.
 fn add_number(numbers: &mut IndexSet<u64>, number: u64) -> Result<(), AllocError>
     ensures { OnOk result ((n : ℕ) →
-        is_number_met numbers.new.keys n ≡ (is_number_met numbers.old.keys n || nat_eq n number)) }
+        has_number numbers.new.keys n ≡ (has_number numbers.old.keys n || nat_eq n number)) }
 {
     numbers.insert(number)?;
     Ok(())
@@ -162,8 +163,8 @@ fn add_number(numbers: &mut IndexSet<u64>, number: u64) -> Result<(), AllocError
 /// Adds the number of an item, where it is a Subr whose words have a fault.
 fn add_faulty(alloc: Global, faulty: &mut IndexSet<u64>, item: &Item) -> Result<(), AllocError>
     ensures { OnOk result ((n : ℕ) →
-        is_number_met faulty.new.keys n
-        ≡ (is_number_met faulty.old.keys n || is_faulty_subr n item.now)) }
+        has_number faulty.new.keys n
+        ≡ (has_number faulty.old.keys n || is_faulty_subr n item.now)) }
 {
     match item {
         Item::Subr(number, words, _) => {
@@ -180,7 +181,7 @@ fn add_faulty(alloc: Global, faulty: &mut IndexSet<u64>, item: &Item) -> Result<
 #[tactic(auto, using(crate::proofs::ToRunLaws::faulty_alone))]
 fn faulty_subrs(alloc: Global, items: &Items) -> Result<IndexSet<u64>, AllocError>
     ensures { IfOk result (λ faulty. (n : ℕ) →
-        is_number_met faulty.keys n ≡ list_any (is_faulty_subr n) items.now) }
+        has_number faulty.keys n ≡ list_any (is_faulty_subr n) items.now) }
 {
     let mut faulty = IndexSet::new(alloc);
     for item in items.iter().alone() {

@@ -5,7 +5,7 @@ use std::marker::Model;
 
 /// Where the bytes are.
 #[derive(Debug, Drop)]
-enum Run<'a> {
+enum Stored<'a> {
     Borrowed(&'a [u8]),
     Owned(Vec<u8>),
 }
@@ -14,7 +14,7 @@ enum Run<'a> {
 /// in memory of its own. Contracts see the list of the bytes.
 #[derive(Debug, Drop)]
 pub struct SourceText<'a> {
-    run: Run<'a>,
+    run: Stored<'a>,
 }
 
 impl<'a> Model for SourceText<'a> {
@@ -32,7 +32,7 @@ impl<'a> SourceText<'a> {
         ensures { result ≡ bytes.now }
     {
         SourceText {
-            run: Run::Borrowed(bytes),
+            run: Stored::Borrowed(bytes),
         }
     }
 
@@ -41,7 +41,7 @@ impl<'a> SourceText<'a> {
         ensures { result ≡ bytes.items }
     {
         SourceText {
-            run: Run::Owned(bytes),
+            run: Stored::Owned(bytes),
         }
     }
 
@@ -57,8 +57,8 @@ impl<'a> SourceText<'a> {
         ensures { result.now ≡ self.now }
     {
         match &self.run {
-            Run::Borrowed(bytes) => bytes,
-            Run::Owned(bytes) => bytes.as_slice(),
+            Stored::Borrowed(bytes) => bytes,
+            Stored::Owned(bytes) => bytes.as_slice(),
         }
     }
 
@@ -67,8 +67,8 @@ impl<'a> SourceText<'a> {
         ensures { IfOk result (λ copy. copy ≡ self.now) }
     {
         match &self.run {
-            Run::Borrowed(bytes) => Ok(SourceText::borrowed(bytes)),
-            Run::Owned(bytes) => SourceText::copy_of(alloc, bytes.as_slice()),
+            Stored::Borrowed(bytes) => Ok(SourceText::borrowed(bytes)),
+            Stored::Owned(bytes) => SourceText::copy_of(alloc, bytes.as_slice()),
         }
     }
 }

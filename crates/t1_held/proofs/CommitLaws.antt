@@ -27,7 +27,7 @@ use Rattle.t1_pairs.specs.declared.pairs.Pair.{Pair}
 use Rattle.t1_font.specs.Assembly.{file_check}
 use Rattle.t1_charstrings.specs.Kept.{AreEncrypted}
 use Rattle.t1_cache.specs.Edited.{stale, IsEditedAt}
-use Rattle.t1_cache.specs.Recorded.{Kept as KeptGlyph}
+use Rattle.t1_cache.specs.Recorded.{RecordedGlyph as KeptGlyph}
 use Rattle.t1_cache.proofs.Distinct.{names_distinct}
 use Rattle.t1_rerun.specs.Opened.{runs_where}
 use Rattle.t1_rerun.specs.Renewing.{IsRunWhereStale}

@@ -5,7 +5,7 @@ use Rattle.std.proofs.Math.Bool.{or-false}
 use Rattle.std.proofs.lemmas.Bool.{cases_Bool}
 use Rattle.std.proofs.lemmas.List.Folds.{list_any-append}
 use Rattle.indexmap.specs.IndexSet.{insert_key as put_in}
-use Rattle.t1_measured_notes.specs.UnusedByLine.{has_number}
+use Rattle.t1_run.specs.RunKeys.{has_number}
 
 -- a number that is put in is among the numbers
 pub number_put : (n k : ℕ) (ks : List ℕ) → has_number (put_in nat_eq ks k) n ≡ (has_number ks n || nat_eq n k)

@@ -3,7 +3,7 @@
 ghost use Rattle.std.specs.Prelude.{◌≡◌, ◌||◌, ℕ, nat_eq, IfOk, OnOk};
 ghost use Rattle.std.specs.List.{list_any};
 ghost use Rattle.t1_measured_notes.specs.MeasuredNotes.{is_entered};
-ghost use Rattle.t1_measured_notes.specs.UnusedByLine.{has_number};
+ghost use Rattle.t1_run.specs.RunKeys.{has_number};
 
 use indexmap::IndexSet;
 use std::alloc::{AllocError, Global};

@@ -8,7 +8,7 @@ ghost use Rattle.t1_notes.specs.LineSections.{is_line_of_section};
 ghost use Rattle.t1_notes.specs.NumberedLines.{before};
 ghost use Rattle.t1_notes.specs.declared.sections.Section.TheVariants.{Glyphs};
 ghost use Rattle.t1_measured_notes.specs.MeasuredNotes.{is_entered, font_notes};
-ghost use Rattle.t1_measured_notes.specs.UnusedByLine.{has_number};
+ghost use Rattle.t1_run.specs.RunKeys.{has_number};
 ghost use Rattle.t1_measured_notes.specs.MeasuredNotes.{is_wide, wide_notes, sound_notes};
 ghost use Rattle.t1_measured_notes.specs.MeasuredNotes.{measured_notes, all_notes};
 

@@ -5,7 +5,7 @@ ghost use Rattle.t1_notes.specs.declared.note.NoteKind.TheVariants.{UnusedSubr};
 ghost use Rattle.t1_notes.specs.BodyWords.{note_where};
 ghost use Rattle.t1_notes.specs.NumberedLines.{note_on};
 ghost use Rattle.t1_measured_notes.specs.MeasuredNotes.{is_unused, unused_among};
-ghost use Rattle.t1_measured_notes.specs.UnusedByLine.{has_number};
+ghost use Rattle.t1_run.specs.RunKeys.{has_number};
 ghost use Rattle.t1_measured_notes.specs.MeasuredNotes.{unused_notes};
 
 use crate::entered::is_among;

@@ -12,7 +12,7 @@ use Rattle.t1_code.specs.declared.command.Command.{Command}
 use Rattle.t1_code.specs.declared.command.Command.TheVariants.{Num, HStem, VStem, VMoveTo, RLineTo, HLineTo, VLineTo, RRCurveTo, ClosePath, CallSubr, Return, DotSection, VStem3, HStem3, Seac, Sbw, Div, CallOtherSubr, Pop, SetCurrentPoint, Hsbw, EndChar, RMoveTo, HMoveTo, VHCurveTo, HVCurveTo}
 use Rattle.t1_run.specs.Operands.{takes}
 use Rattle.t1_run.specs.Words.{draws}
-use Rattle.t1_notes.specs.declared.kept.Kept.{Kept}
+use Rattle.t1_notes.specs.declared.kept.TokensBefore.{TokensBefore}
 use Rattle.t1_notes.specs.declared.line.Line.{Line}
 use Rattle.t1_notes.specs.declared.note.Note.{Note}
 use Rattle.t1_notes.specs.declared.sections.Section.{Section}
@@ -76,7 +76,7 @@ open_step ends draws x before =
 open_next : (before : List PlacedToken) (t : PlacedToken) → is_open (t ∷ before) ≡ open_after (is_open before) t.token (operator_named t.token)
 open_next before t = open_step (λ u. ends_path_at u.token) (λ u. passes draws (operator_named u.token)) t before
 
-abbrev made : ℕ → Bool → Bool → Bool → Kept
+abbrev made : ℕ → Bool → Bool → Bool → TokensBefore
 made numbers has_wide is_negative path = record { numbers = numbers; has_wide = has_wide; is_negative = is_negative; is_open = path }
 
 same_kept : (n m : ℕ) (a b c d p q : Bool) → n ≡ m → a ≡ b → c ≡ d → p ≡ q → made n a c p ≡ made m b d q

@@ -8,7 +8,7 @@ ghost use Rattle.t1_notes.specs.BodyWords.{note_at, note_where, body_notes};
 ghost use Rattle.t1_notes.specs.Kept.{kept_notes, kept_through, notes_by_place};
 
 use crate::commands::{clears, is_hsbw, named, wants_closed};
-use crate::kept::{Kept, kept_after, nothing_kept};
+use crate::kept::{TokensBefore, kept_after, nothing_kept};
 use crate::line::Line;
 use crate::note::{Note, NoteKind};
 use std::alloc::AllocError;
@@ -34,7 +34,7 @@ pub fn push_where(notes: &mut Vec<Note>, holds: bool, note: Note) -> Result<(), 
 }
 
 /// Whether more numbers stand in front of a command than it takes, and it leaves none of them.
-fn has_values_left(kept: Kept, command: Command) -> bool
+fn has_values_left(kept: TokensBefore, command: Command) -> bool
     ensures { result ≡ (clears command && nat_lt (takes command) kept.numbers) }
 {
     clears(command) && takes(command) < usize::from(kept.numbers)
@@ -45,7 +45,7 @@ fn push_command(
     notes: &mut Vec<Note>,
     line: u64,
     column: u64,
-    kept: Kept,
+    kept: TokensBefore,
     command: Command,
 ) -> Result<(), AllocError>
     ensures { OnOk result (notes.new.items ≡ notes.old.items ++ kept_notes line column kept (Some
@@ -66,7 +66,7 @@ fn push_named(
     notes: &mut Vec<Note>,
     line: u64,
     column: u64,
-    kept: Kept,
+    kept: TokensBefore,
     command: Option<Command>,
 ) -> Result<(), AllocError>
     ensures { OnOk result (notes.new.items ≡ notes.old.items ++ kept_notes line column kept
@@ -81,10 +81,10 @@ fn push_named(
 /// Adds the notes on the tokens of the line of this number, and gives what is kept after them.
 fn push_line(
     notes: &mut Vec<Note>,
-    kept: Kept,
+    kept: TokensBefore,
     number: u64,
     line: &[u8],
-) -> Result<Kept, AllocError>
+) -> Result<TokensBefore, AllocError>
     ensures notes { OnOk result (notes.new.items ≡ notes.old.items ++ notes_by_place number kept
         (places_from 0 line.now)) }
     ensures kept { IfOk result (λ after. after ≡ kept_through kept (places_from 0 line.now)) }

@@ -14,7 +14,7 @@ use t1_text::{decimal_up_to, same};
 
 /// What is kept of the tokens before a place.
 #[derive(Clone, Copy)]
-pub struct Kept {
+pub struct TokensBefore {
     /// How many number words stand right before it; more than seven aren't counted.
     pub numbers: u8,
     /// One of them is past ±16,000.
@@ -26,10 +26,10 @@ pub struct Kept {
 }
 
 /// What is kept of no tokens.
-pub fn nothing_kept() -> Kept
+pub fn nothing_kept() -> TokensBefore
     ensures { result ≡ kept_of_tokens [] }
 {
-    Kept {
+    TokensBefore {
         numbers: 0,
         has_wide: false,
         is_negative: false,
@@ -87,10 +87,10 @@ fn numbers_after(numbers: u8, token: &[u8]) -> u8
 }
 
 /// What is kept after a token that names this command.
-pub fn kept_after(kept: Kept, token: &[u8], command: Option<Command>) -> Kept
+pub fn kept_after(kept: TokensBefore, token: &[u8], command: Option<Command>) -> TokensBefore
     ensures { result ≡ kept_after_token kept token.now command }
 {
-    Kept {
+    TokensBefore {
         numbers: numbers_after(kept.numbers, token),
         has_wide: is_number_word(token) && (is_past(16000, token) || kept.has_wide),
         is_negative: is_number_word(token) && is_below_zero(token),

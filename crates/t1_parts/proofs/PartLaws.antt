@@ -7,9 +7,9 @@ use Rattle.std.proofs.lemmas.List.Folds.{list_any-append}
 use Rattle.t1_frac.specs.declared.fault.Code.TheVariants.{F1, F2}
 use Rattle.t1_frac.specs.declared.fault.Place.TheVariants.{Nowhere}
 use Rattle.t1_frac.specs.Outcome.{fault_at}
-use Rattle.t1_text.specs.Lines.{lines}
+use Rattle.t1_text.specs.Lines.{lines, before_rest}
 use Rattle.t1_parts.specs.Parts.{is_eexec, is_closefile, parts_of}
-use Rattle.t1_parts.specs.LineCuts.{IsCut, gone, AreCutAfter, NoneGone}
+use Rattle.t1_parts.specs.LineCuts.{IsCut, AreCutAfter, NoneGone}
 
 -- a function of two that are each the same
 pub ap_both : {A B C : Type 0} (f : A → B → C) (x y : A) (u v : B) → x ≡ y → u ≡ v → f x u ≡ f y v
@@ -89,22 +89,22 @@ parts_cut ls clear eexec rest private closefile tail cut next =
 -- a line further
 pub cut_further : (bytes rest line after : List ℕ) → length rest ≤ length bytes → length after < length rest
     → ((j : ℕ) → lines (take (length rest - length after + j) rest) ≡ line ∷ lines (take j after)) → AreCutAfter bytes rest
-    → (lines (gone bytes after) ≡ lines (gone bytes rest) ++ line ∷ []) × AreCutAfter bytes after
+    → (lines (before_rest bytes after) ≡ lines (before_rest bytes rest) ++ line ∷ []) × AreCutAfter bytes after
 cut_further bytes rest line after within fewer cut h =
     let step : length rest - length after ≡ length rest - length after + 0 = omega arith in
-    let further : (j : ℕ) → lines (take (length bytes - length after + j) bytes) ≡ lines (gone bytes rest) ++ (line ∷ lines (take j after)) =
+    let further : (j : ℕ) → lines (take (length bytes - length after + j) bytes) ≡ lines (before_rest bytes rest) ++ (line ∷ lines (take j after)) =
     λ j. (let size : length bytes - length after + j ≡ length bytes - length rest + (length rest - length after + j) = omega (arith, within, fewer) in
-    ap (λ k. lines (take k bytes)) size ∙ h (length rest - length after + j) ∙ ap (λ ls. lines (gone bytes rest) ++ ls) (cut j)) in
+    ap (λ k. lines (take k bytes)) size ∙ h (length rest - length after + j) ∙ ap (λ ls. lines (before_rest bytes rest) ++ ls) (cut j)) in
     let none : length bytes - length after ≡ length bytes - length after + 0 = omega arith in
-    let now : lines (gone bytes after) ≡ lines (gone bytes rest) ++ line ∷ [] = ap (λ k. lines (take k bytes)) none ∙ further 0 in
-    (now, λ j. further j ∙ sym (ap (λ ls. ls ++ lines (take j after)) now ∙ append_assoc (lines (gone bytes rest)) (line ∷ []) (lines (take j after))))
+    let now : lines (before_rest bytes after) ≡ lines (before_rest bytes rest) ++ line ∷ [] = ap (λ k. lines (take k bytes)) none ∙ further 0 in
+    (now, λ j. further j ∙ sym (ap (λ ls. ls ++ lines (take j after)) now ∙ append_assoc (lines (before_rest bytes rest)) (line ∷ []) (lines (take j after))))
 
 -- all lines are those before the rest, and the rest's
-pub lines_cut : (bytes rest : List ℕ) → length rest ≤ length bytes → AreCutAfter bytes rest → lines bytes ≡ lines (gone bytes rest) ++ lines rest
+pub lines_cut : (bytes rest : List ℕ) → length rest ≤ length bytes → AreCutAfter bytes rest → lines bytes ≡ lines (before_rest bytes rest) ++ lines rest
 lines_cut bytes rest within h =
     let size : length bytes - length rest + length rest ≡ length bytes = omega (arith, within) in
     ap lines (sym (take_all (length bytes) bytes (omega arith))) ∙ ap (λ k. lines (take k bytes)) (sym size) ∙ h (length rest)
-    ∙ ap (λ l. lines (gone bytes rest) ++ lines l) (take_all (length rest) rest (omega arith))
+    ∙ ap (λ l. lines (before_rest bytes rest) ++ lines l) (take_all (length rest) rest (omega arith))
 
 -- none of the lines before passes the test, nor does one more
 pub none_further : (test : List ℕ → Bool) (bytes rest line after : List ℕ) → length after < length rest
@@ -113,19 +113,19 @@ none_further test bytes rest line after fewer cut off h =
     let further = cut_further bytes rest line after h.0 fewer cut h.1 in (
       omega (arith, h.0, fewer),
       further.1,
-      ap (list_any test) further.0 ∙ list_any-append test (lines (gone bytes rest)) (line ∷ []) ∙ (rw (h.2, off) refl),
+      ap (list_any test) further.0 ∙ list_any-append test (lines (before_rest bytes rest)) (line ∷ []) ∙ (rw (h.2, off) refl),
     )
 
 -- nor does one of those that are gone then
 pub none_over : (test : List ℕ → Bool) (bytes rest after : List ℕ) → NoneGone test bytes rest → NoneGone test rest after → NoneGone test bytes after
 none_over test bytes rest after h k =
-    let all : (j : ℕ) → lines (take (length bytes - length after + j) bytes) ≡ lines (gone bytes rest) ++ (lines (gone rest after) ++ lines (take j after)) =
+    let all : (j : ℕ) → lines (take (length bytes - length after + j) bytes) ≡ lines (before_rest bytes rest) ++ (lines (before_rest rest after) ++ lines (take j after)) =
     λ j. (let size : length bytes - length after + j ≡ length bytes - length rest + (length rest - length after + j) = omega (arith, h.0, k.0) in
-    ap (λ n. lines (take n bytes)) size ∙ h.1 (length rest - length after + j) ∙ ap (λ ls. lines (gone bytes rest) ++ ls) (k.1 j)) in
+    ap (λ n. lines (take n bytes)) size ∙ h.1 (length rest - length after + j) ∙ ap (λ ls. lines (before_rest bytes rest) ++ ls) (k.1 j)) in
     let none : length bytes - length after ≡ length bytes - length after + 0 = omega arith in
-    let now : lines (gone bytes after) ≡ lines (gone bytes rest) ++ lines (gone rest after) =
-    ap (λ n. lines (take n bytes)) none ∙ all 0 ∙ ap (λ ls. lines (gone bytes rest) ++ ls) (append-nil (lines (gone rest after))) in (
+    let now : lines (before_rest bytes after) ≡ lines (before_rest bytes rest) ++ lines (before_rest rest after) =
+    ap (λ n. lines (take n bytes)) none ∙ all 0 ∙ ap (λ ls. lines (before_rest bytes rest) ++ ls) (append-nil (lines (before_rest rest after))) in (
       omega (arith, h.0, k.0),
-      λ j. all j ∙ sym (ap (λ ls. ls ++ lines (take j after)) now ∙ append_assoc (lines (gone bytes rest)) (lines (gone rest after)) (lines (take j after))),
-      ap (list_any test) now ∙ list_any-append test (lines (gone bytes rest)) (lines (gone rest after)) ∙ (rw (h.2, k.2) refl),
+      λ j. all j ∙ sym (ap (λ ls. ls ++ lines (take j after)) now ∙ append_assoc (lines (before_rest bytes rest)) (lines (before_rest rest after)) (lines (take j after))),
+      ap (list_any test) now ∙ list_any-append test (lines (before_rest bytes rest)) (lines (before_rest rest after)) ∙ (rw (h.2, k.2) refl),
     )

@@ -15,8 +15,8 @@ use Rattle.t1_text.proofs.WholeLines.{whole, left, lines_over, whole_count, whol
 use Rattle.t1_text.proofs.CutLaws.{after_within}
 use Rattle.t1_parts.specs.declared.body.EntryBody.{EntryBody}
 use Rattle.t1_parts.specs.Entries.{body_of, closes, has_brace, with_front}
-use Rattle.t1_parts.specs.declared.piece.Piece.{Piece}
-use Rattle.t1_parts.specs.declared.piece.Piece.TheVariants.{Commented, Closed, Open}
+use Rattle.t1_parts.specs.declared.piece.BodyFront.{BodyFront}
+use Rattle.t1_parts.specs.declared.piece.BodyFront.TheVariants.{Commented, Closed, Open}
 use Rattle.t1_parts.specs.Pieces.{AreLinesAfter}
 use Rattle.t1_parts.proofs.BodyLaws.{no_brace, no_comment}
 use Rattle.t1_parts.proofs.PartLaws.{ap_both, cut_dropped, longer}
@@ -244,22 +244,22 @@ ended_piece bytes front back f b none =
 -- ---- a body, piece by piece
 
 -- the body that a piece has in front
-abbrev pub body_in : Piece → Option EntryBody
+abbrev pub body_in : BodyFront → Option EntryBody
 body_in (Commented front after) = with_front (words front.now) (line_ends front.now + 1) (body_of (lines after.now))
 body_in (Closed front closing after) = Some (record { words = words front.now; closing = closing.now; more = line_ends front.now })
 body_in Open = None
 
 -- a piece stands so many lines after the front of some bytes
-abbrev pub IsPlaced : ℕ → List ℕ → Piece → Type 0
+abbrev pub IsPlaced : ℕ → List ℕ → BodyFront → Type 0
 IsPlaced m bytes (Commented front after) = AreLinesAfter (m + (line_ends front.now + 1)) bytes after.now × (m + (length front.now + 1) + length after.now ≤ length bytes)
 IsPlaced m bytes (Closed front closing after) = AreLinesAfter (m + (line_ends front.now + 1)) bytes after.now × (m + length front.now ≤ length bytes)
 IsPlaced m bytes Open = Unit {0}
 
 -- what is left after a piece
-abbrev pub left_after : Piece → ℕ
+abbrev pub left_after : BodyFront → ℕ
 left_after (Commented front after) = length after.now + 1
 left_after (Closed front closing after) = 0
 left_after Open = 0
 
-abbrev pub IsRead : List (List ℕ) → ℕ → List ℕ → Piece → Type 0
+abbrev pub IsRead : List (List ℕ) → ℕ → List ℕ → BodyFront → Type 0
 IsRead ws m bytes p = (with_front ws m (body_in p) ≡ body_of (lines bytes)) × IsPlaced m bytes p

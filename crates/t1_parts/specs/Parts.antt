@@ -21,13 +21,13 @@ abbrev pub is_closefile : List ℕ → Bool
 is_closefile l = ends_in (codes "mark currentfile closefile") l
 
 -- profile, parts: the three parts of some lines
-pub record Parts : Type 0 where
+pub record ThreeParts : Type 0 where
   pub clear : List (List ℕ)
   pub private : List (List ℕ)
   pub tail : List (List ℕ)
 
 -- profile, parts: through the first eexec line, then through the first closefile line, then the tail
-unfoldable pub parts_of : List (List ℕ) → Result Parts Fault
+unfoldable pub parts_of : List (List ℕ) → Result ThreeParts Fault
 parts_of ls = do
   eexec ← ok_or (position is_eexec ls) (fault_at Nowhere F1)
   closefile ← ok_or (position is_closefile (drop (eexec + 1) ls)) (fault_at Nowhere F2)

@@ -3,8 +3,8 @@ use Rattle.std.specs.Prelude.{◌≡◌, ◌≤◌, ◌+◌, ℕ, Some, None, Li
 use Rattle.t1_frac.specs.Words.{words}
 use Rattle.t1_text.specs.Lines.{lines}
 use Rattle.t1_text.specs.LineEnds.{line_ends}
-use Rattle.t1_parts.specs.declared.piece.Piece.{Piece}
-use Rattle.t1_parts.specs.declared.piece.Piece.TheVariants.{Commented, Closed, Open}
+use Rattle.t1_parts.specs.declared.piece.BodyFront.{BodyFront}
+use Rattle.t1_parts.specs.declared.piece.BodyFront.TheVariants.{Commented, Closed, Open}
 use Rattle.t1_parts.specs.Entries.{body_of, with_front}
 
 -- word: the lines of the second bytes are those of the first after so many
@@ -13,7 +13,7 @@ AreLinesAfter n bytes after = (n ≤ length (lines bytes)) × (lines after ≡ d
 
 -- word, entries: the body at the front of some bytes has this piece in front: whole lines and a comment, or all of it;
 -- or it isn't ended
-abbrev pub IsPiece : List ℕ → Piece → Type 0
+abbrev pub IsPiece : List ℕ → BodyFront → Type 0
 IsPiece bytes (Commented front after) =
     (body_of (lines bytes) ≡ with_front (words front.now) (line_ends front.now + 1) (body_of (lines after.now)))
     × AreLinesAfter (line_ends front.now + 1) bytes after.now

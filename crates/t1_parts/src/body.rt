@@ -10,7 +10,7 @@ ghost use Rattle.t1_text.specs.Delimiters.{is_brace};
 ghost use Rattle.t1_parts.specs.Entries.{has_brace, body_of, opened_body};
 ghost use Rattle.t1_parts.specs.Pieces.{AreLinesAfter};
 
-use crate::piece::{Piece, piece_of};
+use crate::piece::{BodyFront, piece_of};
 use memchr::{memchr, memchr2};
 use std::alloc::{AllocError, Global};
 use t1_frac::{OwnedWords, SourceText, Words};
@@ -63,12 +63,12 @@ fn commented_body(alloc: Global, bytes: &[u8]) -> Result<Option<(EntryBody<'_>, 
     let mut words = OwnedWords::new(alloc);
     let mut more = 0;
     let mut piece = piece_of(bytes);
-    while let Piece::Commented(front, after) = piece {
+    while let BodyFront::Commented(front, after) = piece {
         words.push_line(front)?;
         more += line_ends(front) + 1;
         piece = piece_of(after);
     }
-    let Piece::Closed(front, closing, after) = piece else {
+    let BodyFront::Closed(front, closing, after) = piece else {
         return Ok(None);
     };
     words.push_line(front)?;
@@ -89,7 +89,7 @@ pub fn body_of(alloc: Global, bytes: &[u8]) -> Result<Option<(EntryBody<'_>, &[u
         (λ found. IfSome found (λ f. AreLinesAfter (f.0.more + 1) bytes.now f.1.now)) }
 {
     match piece_of(bytes) {
-        Piece::Closed(front, closing, after) => {
+        BodyFront::Closed(front, closing, after) => {
             let body = EntryBody {
                 words: Words::of(front),
                 closing: SourceText::borrowed(closing),
@@ -97,8 +97,8 @@ pub fn body_of(alloc: Global, bytes: &[u8]) -> Result<Option<(EntryBody<'_>, &[u
             };
             Ok(Some((body, after)))
         }
-        Piece::Commented(_, _) => commented_body(alloc, bytes),
-        Piece::Open => Ok(None),
+        BodyFront::Commented(_, _) => commented_body(alloc, bytes),
+        BodyFront::Open => Ok(None),
     }
 }
 

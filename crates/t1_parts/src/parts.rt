@@ -70,7 +70,7 @@ fn cut_at<'a>(text: &[u8], bytes: &'a [u8]) -> Option<Cut<'a>>
 
 /// The bytes of the three parts, but for the line that ends each of the first two.
 #[derive(Drop)]
-pub struct Parts<'a> {
+pub struct PartBytes<'a> {
     pub clear: &'a [u8],
     pub eexec: &'a [u8],
     pub private: &'a [u8],
@@ -80,7 +80,7 @@ pub struct Parts<'a> {
 
 /// The parts of a source.
 #[tactic(auto, unfolding(crate::specs::Parts::parts_of), using(crate::proofs::PartLaws::no_clear, crate::proofs::PartLaws::no_private, crate::proofs::PartLaws::parts_cut))]
-pub fn parts_of(bytes: &[u8]) -> Result<Parts<'_>, Fault>
+pub fn parts_of(bytes: &[u8]) -> Result<PartBytes<'_>, Fault>
     ensures { MatchResult result
         (λ p.
         parts_of (lines bytes.now)
@@ -100,7 +100,7 @@ pub fn parts_of(bytes: &[u8]) -> Result<Parts<'_>, Fault>
     let Some(private) = cut_at(b"mark currentfile closefile", clear.after) else {
         return Err(Fault::from(Code::F2));
     };
-    Ok(Parts {
+    Ok(PartBytes {
         clear: clear.before,
         eexec: clear.line,
         private: private.before,

@@ -23,7 +23,7 @@ use Rattle.t1_cache.specs.declared.records.Records.{Records}
 use Rattle.t1_cache.specs.declared.records.Rerun.{Rerun}
 use Rattle.t1_cache.specs.Bodies.{record_bodies}
 use Rattle.t1_cache.specs.Renewal.{kept_by}
-use Rattle.t1_cache.specs.Recorded.{IsOneOf, Kept, kept_of}
+use Rattle.t1_cache.specs.Recorded.{IsOneOf, RecordedGlyph, kept_of}
 use Rattle.t1_cache.specs.Renewed.{kept, rerun_of, reruns_by_name, with_rerun, with_reruns}
 use Rattle.t1_cache.specs.Room.{MayJoin}
 use Rattle.t1_cache.specs.Users.{among, has_pair, lists, rest_of, users_at, pairs_of_key, HasUserRoom}
@@ -37,7 +37,7 @@ use Rattle.t1_cache.proofs.Filtering.{filter-as}
 use Rattle.t1_rerun.specs.declared.renewal.Renewal.{Renewal}
 use Rattle.t1_rerun.specs.declared.entry_change.EntryChange.{EntryChange}
 use Rattle.t1_rerun.specs.declared.settling.Ready.{Ready}
-use Rattle.t1_rerun.specs.declared.settling.steps.Step.{Step}
+use Rattle.t1_rerun.specs.declared.settling.steps.RecordChange.{RecordChange}
 use Rattle.t1_rerun.specs.Right.{has_glyph, IsRight}
 use Rattle.t1_rerun.specs.Settled.{changed_keys, last_glyphs, was_moved, HasBody, IsJudged, IsReady, IsRenewedBy}
 use Rattle.t1_rerun.specs.Steps.{after_all, is_last, new_run, seen, some_inserts, LacksRun, Seen}
@@ -59,28 +59,28 @@ named-stale : (m : FontBodies) (keys : List Key) (g : List ℕ) → is_named key
 named-stale m keys g on =
     true_from_ne_false (is_touched m keys g) (λ off. let never : true ≡ false = sym on ∙ unnamed m keys g off in absurd (cc))
 
-all-of : (kept xs : List Kept) → ((k : Kept) → IsOneOf xs k → IsOneOf kept k) → AllByRecursion (IsOneOf kept) xs
+all-of : (kept xs : List RecordedGlyph) → ((k : RecordedGlyph) → IsOneOf xs k → IsOneOf kept k) → AllByRecursion (IsOneOf kept) xs
 all-of kept [] more = tt
 all-of kept (x ∷ xs) more = (more x (inl refl), all-of kept xs (λ k i. more k (inr i)))
 
-all-two : (P Q R : Kept → Type 0) → ((k : Kept) → P k → Q k → R k) → (xs : List Kept) → AllByRecursion P xs → AllByRecursion Q xs → AllByRecursion R xs
+all-two : (P Q R : RecordedGlyph → Type 0) → ((k : RecordedGlyph) → P k → Q k → R k) → (xs : List RecordedGlyph) → AllByRecursion P xs → AllByRecursion Q xs → AllByRecursion R xs
 all-two P Q R step [] ps qs = tt
 all-two P Q R step (x ∷ xs) ps qs = (step x ps.0 qs.0, all-two P Q R step xs ps.1 qs.1)
 
-all-mapped : (P : Kept → Type 0) (f : Kept → Kept) (xs : List Kept) → AllByRecursion (λ k. P (f k)) xs → AllByRecursion P (map f xs)
+all-mapped : (P : RecordedGlyph → Type 0) (f : RecordedGlyph → RecordedGlyph) (xs : List RecordedGlyph) → AllByRecursion (λ k. P (f k)) xs → AllByRecursion P (map f xs)
 all-mapped P f [] h = tt
 all-mapped P f (x ∷ xs) h = (h.0, all-mapped P f xs h.1)
 
 -- ---- a record with a new run
 
-abbrev with-pair : Option (TracedRun × Option BBox) → Kept → Kept
+abbrev with-pair : Option (TracedRun × Option BBox) → RecordedGlyph → RecordedGlyph
 with-pair None k = k
 with-pair (Some r) k = record { name = k.name; run = r.0; box = r.1 }
 
 abbrev pair : Rerun → TracedRun × Option BBox
 pair r = (r.run, r.bbox)
 
-as-pair : (r : Option Rerun) (k : Kept) → with_rerun r k ≡ with-pair (option_map pair r) k
+as-pair : (r : Option Rerun) (k : RecordedGlyph) → with_rerun r k ≡ with-pair (option_map pair r) k
 as-pair None k = refl
 as-pair (Some r) k = refl
 
@@ -122,10 +122,10 @@ module _ (changes : List EntryChange) (old new : SourceParts) (before : Records)
   abbrev count : Key → ℕ
   count = pairs_of_key renewal.joins.items
 
-  abbrev steps : List Step
+  abbrev steps : List RecordChange
   steps = done.steps.items
 
-  abbrev kept-before : List Kept
+  abbrev kept-before : List RecordedGlyph
   kept-before = map kept_of before.glyphs.entries
 
   abbrev last : Seen
@@ -266,7 +266,7 @@ module _ (changes : List EntryChange) (old new : SourceParts) (before : Records)
         ∙ sym j.order
 
     -- a record that was put in is a rerun's, and each other one was kept
-    record IsSet (k : Kept) : Type 0 where
+    record IsSet (k : RecordedGlyph) : Type 0 where
       pub put : some_inserts steps k.name ≡ true → IsOneOf (map kept_by reruns) k
       pub stayed : some_inserts steps k.name ≡ false → IsOneOf kept-before k
 
@@ -288,7 +288,7 @@ module _ (changes : List EntryChange) (old new : SourceParts) (before : Records)
     abbrev left : List Rerun
     left = reruns_by_name done.runs.entries
 
-    renewed-one-by : (k : Kept) → IsSet k → has_glyph new k.name ≡ true → IsRenewedBy keys old reruns kept-before (with_rerun (rerun_of left k.name) k)
+    renewed-one-by : (k : RecordedGlyph) → IsSet k → has_glyph new k.name ≡ true → IsRenewedBy keys old reruns kept-before (with_rerun (rerun_of left k.name) k)
     renewed-one-by k set there =
         subst (IsRenewedBy keys old reruns kept-before) (sym (as-pair (rerun_of left k.name) k ∙ ap (λ r. with-pair r k) (is.runs k.name)))
         (by (some_inserts steps k.name) refl)

@@ -35,7 +35,7 @@ use Rattle.t1_font.proofs.Measuring.{keeps-own, names-there, KeepsOwn, outline-i
 use Rattle.t1_cache.specs.declared.records.Records.{Records}
 use Rattle.t1_cache.specs.Bodies.{record_bodies}
 use Rattle.t1_cache.specs.Laws.{fault_check, AreDistinct}
-use Rattle.t1_cache.specs.Recorded.{IsFromScratch, Kept, kept_of}
+use Rattle.t1_cache.specs.Recorded.{IsFromScratch, RecordedGlyph, kept_of}
 use Rattle.t1_cache.specs.Tables.{AreTables}
 use Rattle.t1_cache.proofs.Distinct.{names_distinct}
 use Rattle.t1_cache.proofs.Renewing.{shown-all}
@@ -141,7 +141,7 @@ module _ (s : SourceParts) (file : file_check s ≡ Ok tt) where
         draw = λ g. keeps g ∙ sym (own-alike bs m same g);
       }
 
-      from-scratch : AreTraced runs → (k : Kept) → IsRecorded runs metrics k → IsFromScratch m k
+      from-scratch : AreTraced runs → (k : RecordedGlyph) → IsRecorded runs metrics k → IsFromScratch m k
       from-scratch traced k is =
           let box = box-measured (own m) metrics k.name k.box all.0 is.box in
           record {
@@ -168,7 +168,7 @@ module _ (s : SourceParts) (file : file_check s ≡ Ok tt) where
       }
 
 pub all-after : (count : ℕ) (runs : List KeptRun) (metrics : List GlyphMetrics) → ((g : List ℕ) → IsNumberedAfter count (run_kept runs g))
-    → (ks : List Kept) → AllByRecursion (IsRecorded runs metrics) ks → AllByRecursion (IsRunAfter count) ks
+    → (ks : List RecordedGlyph) → AllByRecursion (IsRecorded runs metrics) ks → AllByRecursion (IsRunAfter count) ks
 all-after count runs metrics after ks each =
     all-weaken (IsRecorded runs metrics) (IsRunAfter count) (λ k is. subst (IsNumberedAfter count) is.run (after k.name)) ks each
 

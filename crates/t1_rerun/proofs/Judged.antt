@@ -15,7 +15,7 @@ use Rattle.t1_cache.specs.Bodies.{record_bodies}
 use Rattle.t1_cache.specs.declared.records.Rerun.{Rerun}
 use Rattle.t1_cache.specs.Kept.{KeepsAll}
 use Rattle.t1_cache.specs.Renewal.{kept_by}
-use Rattle.t1_cache.specs.Recorded.{IsOneOf, Kept}
+use Rattle.t1_cache.specs.Recorded.{IsOneOf, RecordedGlyph}
 use Rattle.t1_rerun.specs.RunNumbers.{IsRunAfter}
 use Rattle.t1_rerun.specs.Renewals.{IsLater}
 use Rattle.t1_rerun.specs.Renewing.{IsRunWhereStale}
@@ -39,13 +39,13 @@ file-refused s refusal h =
 
 -- ---- runs
 
-later-kept : (count : ℕ) (rs : List Rerun) (k : Kept) → AllByRecursion (IsLater count) rs → IsOneOf (map kept_by rs) k → IsRunAfter count k
+later-kept : (count : ℕ) (rs : List Rerun) (k : RecordedGlyph) → AllByRecursion (IsLater count) rs → IsOneOf (map kept_by rs) k → IsRunAfter count k
 later-kept count [] k all h = absurd h
 later-kept count (r ∷ rs) k all (inl e) = subst (IsRunAfter count) e all.0
 later-kept count (r ∷ rs) k all (inr h) = later-kept count rs k all.1 h
 
 -- what was renewed by later runs has them where it is stale
-pub all-later-kept : (count : ℕ) (keys : List Key) (old : SourceParts) (rs : List Rerun) → AllByRecursion (IsLater count) rs → (kept ks : List Kept)
+pub all-later-kept : (count : ℕ) (keys : List Key) (old : SourceParts) (rs : List Rerun) → AllByRecursion (IsLater count) rs → (kept ks : List RecordedGlyph)
     → AllByRecursion (IsRenewedBy keys old rs kept) ks → AllByRecursion (IsRunWhereStale count keys old kept) ks
 all-later-kept count keys old rs later kept [] all = tt
 all-later-kept count keys old rs later kept (k ∷ ks) all =

@@ -12,14 +12,14 @@ use Rattle.t1_run.specs.Touched.{is_key_of}
 use Rattle.t1_cache.specs.declared.records.Records.{Records}
 use Rattle.t1_cache.specs.Bodies.{record_bodies}
 use Rattle.t1_cache.specs.Renewed.{kept}
-use Rattle.t1_cache.specs.Recorded.{Kept, kept_of}
+use Rattle.t1_cache.specs.Recorded.{RecordedGlyph, kept_of}
 use Rattle.t1_cache.specs.Users.{is_name_among, is_key_among, users_at}
 use Rattle.t1_cache.specs.EditKeys.{key_of}
 use Rattle.t1_cache.proofs.Filtering.{filter-all, filter-both, filter-same}
 use Rattle.t1_font.proofs.Lookups.{bytes_tell, bytes-turned}
 use Rattle.t1_font.proofs.Keys.{glyph-key}
-use Rattle.t1_rerun.specs.declared.settling.steps.Step.{Step}
-use Rattle.t1_rerun.specs.declared.settling.steps.Step.TheVariants as steps
+use Rattle.t1_rerun.specs.declared.settling.steps.RecordChange.{RecordChange}
+use Rattle.t1_rerun.specs.declared.settling.steps.RecordChange.TheVariants as steps
 use Rattle.t1_rerun.specs.Steps.{seen_after, after_all, seen, step_body, step_kept, step_key, step_users, takes_out, AreTakenOut, Seen}
 
 -- ---- seen alike but for some glyphs
@@ -36,11 +36,11 @@ record Alike (p : List ℕ → Bool) (x y : Seen) : Type 0 where
   pub kept : filter (λ k. not (p k.name)) y.kept ≡ filter (λ k. not (p k.name)) x.kept
 
 -- of some glyphs, without those that a step takes out
-abbrev still : (List ℕ → Bool) → Step → List ℕ → Bool
+abbrev still : (List ℕ → Bool) → RecordChange → List ℕ → Bool
 still p step g = p g && not (takes_out step g)
 
 -- glyphs that are still there aren't those of another key
-was-off : (p : List ℕ → Bool) (step : Step) (k : Key) → key_eq k (step_key step) ≡ false → of-key (still p step) k ≡ false → of-key p k ≡ false
+was-off : (p : List ℕ → Bool) (step : RecordChange) (k : Key) → key_eq k (step_key step) ≡ false → of-key (still p step) k ≡ false → of-key p k ≡ false
 was-off p step (Subr n) other off = refl
 was-off p (steps.Remove named) (Glyph g) other off = sym (and-true (p g)) ∙ ap (λ b. p g && not b) (sym other) ∙ off
 was-off p (steps.Put named body) (Glyph g) other off = sym (and-true (p g)) ∙ off
@@ -54,58 +54,58 @@ gone-later false true = refl
 gone-later false false = refl
 
 -- those that are taken out are gone either way
-taken-kept : (p r : List ℕ → Bool) (xs ys : List Kept) → filter (λ k. not (p k.name)) ys ≡ filter (λ k. not (p k.name)) xs
+taken-kept : (p r : List ℕ → Bool) (xs ys : List RecordedGlyph) → filter (λ k. not (p k.name)) ys ≡ filter (λ k. not (p k.name)) xs
     → filter (λ k. not (p k.name && not (r k.name))) (filter (λ k. not (r k.name)) ys)
     ≡ filter (λ k. not (p k.name && not (r k.name))) (filter (λ k. not (r k.name)) xs)
 taken-kept p r xs ys same = all ys ∙ ap (filter (λ k. not (r k.name))) same ∙ sym (all xs) where
-  all : (ks : List Kept) → filter (λ k. not (p k.name && not (r k.name))) (filter (λ k. not (r k.name)) ks) ≡ filter (λ k. not (r k.name)) (filter (λ k. not (p k.name)) ks)
+  all : (ks : List RecordedGlyph) → filter (λ k. not (p k.name && not (r k.name))) (filter (λ k. not (r k.name)) ks) ≡ filter (λ k. not (r k.name)) (filter (λ k. not (p k.name)) ks)
   all ks =
       filter-both (λ k. not (r k.name)) (λ k. not (p k.name && not (r k.name))) ks
       ∙ filter-same (λ k. not (r k.name) && not (p k.name && not (r k.name))) (λ k. not (p k.name) && not (r k.name)) ks (λ k. gone-later (p k.name) (r k.name))
       ∙ sym (filter-both (λ k. not (p k.name)) (λ k. not (r k.name)) ks)
 
-kept-after : (p : List ℕ → Bool) (step : Step) (xs ys : List Kept) → filter (λ k. not (p k.name)) ys ≡ filter (λ k. not (p k.name)) xs
+kept-after : (p : List ℕ → Bool) (step : RecordChange) (xs ys : List RecordedGlyph) → filter (λ k. not (p k.name)) ys ≡ filter (λ k. not (p k.name)) xs
     → filter (λ k. not (still p step k.name)) (step_kept step ys) ≡ filter (λ k. not (still p step k.name)) (step_kept step xs)
 kept-after p (steps.Remove named) xs ys same = each ys ∙ taken-kept p (λ g. key_eq (Glyph g) (key_of named)) xs ys same ∙ sym (each xs) where
-  each : (ks : List Kept) → filter (λ k. not (still p (steps.Remove named) k.name)) (filter (λ k. not (is_key_of k.name (key_of named))) ks)
+  each : (ks : List RecordedGlyph) → filter (λ k. not (still p (steps.Remove named) k.name)) (filter (λ k. not (is_key_of k.name (key_of named))) ks)
       ≡ filter (λ k. not (still p (steps.Remove named) k.name)) (filter (λ k. not (key_eq (Glyph k.name) (key_of named))) ks)
   each ks =
       ap (filter (λ k. not (still p (steps.Remove named) k.name)))
       (filter-same (λ k. not (is_key_of k.name (key_of named))) (λ k. not (key_eq (Glyph k.name) (key_of named))) ks (λ k. ap not (glyph-key k.name (key_of named))))
 kept-after p (steps.Put named body) xs ys same = each ys ∙ same ∙ sym (each xs) where
-  each : (ks : List Kept) → filter (λ k. not (p k.name && true)) ks ≡ filter (λ k. not (p k.name)) ks
+  each : (ks : List RecordedGlyph) → filter (λ k. not (p k.name && true)) ks ≡ filter (λ k. not (p k.name)) ks
   each ks = filter-same (λ k. not (p k.name && true)) (λ k. not (p k.name)) ks (λ k. ap not (and-true (p k.name)))
 kept-after p (steps.InsertSubr n r) xs ys same = each ys ∙ same ∙ sym (each xs) where
-  each : (ks : List Kept) → filter (λ k. not (p k.name && true)) ks ≡ filter (λ k. not (p k.name)) ks
+  each : (ks : List RecordedGlyph) → filter (λ k. not (p k.name && true)) ks ≡ filter (λ k. not (p k.name)) ks
   each ks = filter-same (λ k. not (p k.name && true)) (λ k. not (p k.name)) ks (λ k. ap not (and-true (p k.name)))
 kept-after p (steps.InsertGlyph name r) xs ys same = each ys ∙ ap (λ l. l ++ filter left (new ∷ [])) (taken-kept p (λ g. bytes_eq g name.items) xs ys same) ∙ sym (each xs) where
-  left : Kept → Bool
+  left : RecordedGlyph → Bool
   left k = not (still p (steps.InsertGlyph name r) k.name)
 
-  new : Kept
+  new : RecordedGlyph
   new = kept name.items r.run r.bbox
 
-  each : (ks : List Kept) → filter left (filter (λ k. not (bytes_eq name.items k.name)) ks ++ new ∷ []) ≡ filter left (filter (λ k. not (bytes_eq k.name name.items)) ks) ++ filter left (new ∷ [])
+  each : (ks : List RecordedGlyph) → filter left (filter (λ k. not (bytes_eq name.items k.name)) ks ++ new ∷ []) ≡ filter left (filter (λ k. not (bytes_eq k.name name.items)) ks) ++ filter left (new ∷ [])
   each ks =
       filter-append left (filter (λ k. not (bytes_eq name.items k.name)) ks) (new ∷ [])
       ∙ ap (λ l. filter left l ++ filter left (new ∷ []))
       (filter-same (λ k. not (bytes_eq name.items k.name)) (λ k. not (bytes_eq k.name name.items)) ks (λ k. ap not (bytes-turned name.items k.name)))
 
 -- after a step they are alike but for those that it doesn't take out
-alike-after : (p : List ℕ → Bool) (step : Step) (x y : Seen) → Alike p x y → Alike (still p step) (seen_after step x) (seen_after step y)
+alike-after : (p : List ℕ → Bool) (step : RecordChange) (x y : Seen) → Alike p x y → Alike (still p step) (seen_after step x) (seen_after step y)
 alike-after p step x y a = record {
   bodies = λ k off. body k off (key_eq k (step_key step)) refl;
   users = λ k off. user k off (key_eq k (step_key step)) refl;
   kept = kept-after p step x.kept y.kept a.kept;
 } where
-  put-body : (step : Step) (k : Key) → of-key (still p step) k ≡ false → step_body step (y.bodies k) ≡ step_body step (x.bodies k)
+  put-body : (step : RecordChange) (k : Key) → of-key (still p step) k ≡ false → step_body step (y.bodies k) ≡ step_body step (x.bodies k)
   put-body (steps.Remove named) k off = refl
   put-body (steps.Put named body) (Subr n) off = ap (step_body (steps.Put named body)) (a.bodies (Subr n) refl)
   put-body (steps.Put named body) (Glyph g) off = ap (step_body (steps.Put named body)) (a.bodies (Glyph g) (sym (and-true (p g)) ∙ off))
   put-body (steps.InsertSubr n r) k off = refl
   put-body (steps.InsertGlyph name r) k off = refl
 
-  put-users : (step : Step) (k : Key) → of-key (still p step) k ≡ false → step_users step (y.users k) ≡ step_users step (x.users k)
+  put-users : (step : RecordChange) (k : Key) → of-key (still p step) k ≡ false → step_users step (y.users k) ≡ step_users step (x.users k)
   put-users (steps.Remove named) k off = refl
   put-users (steps.Put named body) (Subr n) off = a.users (Subr n) refl
   put-users (steps.Put named body) (Glyph g) off = a.users (Glyph g) (sym (and-true (p g)) ∙ off)
@@ -125,13 +125,13 @@ alike-after p step x y a = record {
 -- ---- all steps
 
 -- some of the steps take the glyph out
-abbrev some-take : List Step → List ℕ → Bool
+abbrev some-take : List RecordChange → List ℕ → Bool
 some-take steps g = list_any (λ step. takes_out step g) steps
 
 as-alike : (p q : List ℕ → Bool) → ((g : List ℕ) → p g ≡ q g) → (x y : Seen) → Alike p x y → Alike q x y
 as-alike p q same x y a = subst (λ (f : List ℕ → Bool). Alike f x y) (λ j. λ g. same g j) a
 
-alike-after-all : (steps : List Step) (p : List ℕ → Bool) (x y : Seen) → Alike p x y → Alike (λ g. p g && not (some-take steps g)) (after_all steps x) (after_all steps y)
+alike-after-all : (steps : List RecordChange) (p : List ℕ → Bool) (x y : Seen) → Alike p x y → Alike (λ g. p g && not (some-take steps g)) (after_all steps x) (after_all steps y)
 alike-after-all [] p x y a = as-alike p (λ g. p g && true) (λ g. sym (and-true (p g))) x y a
 alike-after-all (step ∷ steps) p x y a =
     as-alike (still (λ g. p g && not (some-take steps g)) step) (λ g. p g && not (some-take (step ∷ steps) g))
@@ -157,7 +157,7 @@ none-left true b h = ap not (sym (h refl))
 none-left false b h = refl
 
 -- glyphs that steps take out may be taken out before them
-pub taken-first : (steps : List Step) (names : List (Vec ℕ Global)) → AreTakenOut names steps → (old new : Records)
+pub taken-first : (steps : List RecordChange) (names : List (Vec ℕ Global)) → AreTakenOut names steps → (old new : Records)
     → ((k : Key) → body_at (record_bodies new) k ≡ cond (is_key_among names k) None (body_at (record_bodies old) k))
     → ((k : Key) → users_at new k ≡ cond (is_key_among names k) None (users_at old k))
     → map kept_of new.glyphs.entries ≡ filter (λ k. not (is_name_among (λ name. name.items) names k.name)) (map kept_of old.glyphs.entries)
@@ -184,14 +184,14 @@ taken-first steps names taken old new bodies users kepts =
 -- ---- one of the steps
 
 -- what a step takes out the steps take out
-pub taken-at : (steps : List Step) (at : ℕ) (step : Step) (g : List ℕ) → at < length steps → step ≡ get_or steps at step → takes_out step g ≡ true
+pub taken-at : (steps : List RecordChange) (at : ℕ) (step : RecordChange) (g : List ℕ) → at < length steps → step ≡ get_or steps at step → takes_out step g ≡ true
     → list_any (λ s. takes_out s g) steps ≡ true
 taken-at [] at step g far is on = absurd (omega (arith, far))
 taken-at (s ∷ steps) zero step g far is on = ap (λ b. b || some-take steps g) (ap (λ s. takes_out s g) (sym is) ∙ on)
 taken-at (s ∷ steps) (suc at) step g far is on = or_right (takes_out s g) (some-take steps g) (taken-at steps at step g (omega (arith, far)) is on)
 
 -- one name more
-pub taken-more : (steps : List Step) (names new : List (Vec ℕ Global)) (key : Vec ℕ Global) (at : ℕ) (step : Step) → AreTakenOut names steps
+pub taken-more : (steps : List RecordChange) (names new : List (Vec ℕ Global)) (key : Vec ℕ Global) (at : ℕ) (step : RecordChange) → AreTakenOut names steps
     → ((g : List ℕ) → is_name_among (λ name. name.items) new g ≡ (is_name_among (λ name. name.items) names g || bytes_eq g key.items))
     → at < length steps → step ≡ get_or steps at step → takes_out step key.items ≡ true → AreTakenOut new steps
 taken-more steps names new key at step taken more far is on = λ g h. by g (is_name_among (λ name. name.items) names g) refl (bytes_eq g key.items) refl (sym (more g) ∙ h) where

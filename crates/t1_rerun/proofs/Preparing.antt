@@ -29,8 +29,8 @@ use Rattle.t1_cache.specs.Recorded.{kept_of}
 use Rattle.t1_cache.specs.Users.{among, glyph_users, subr_users, users_at}
 use Rattle.t1_cache.specs.EditKeys.{key_of}
 use Rattle.t1_rerun.specs.declared.entry_change.EntryChange.{EntryChange}
-use Rattle.t1_rerun.specs.declared.settling.steps.Step.{Step}
-use Rattle.t1_rerun.specs.declared.settling.steps.Step.TheVariants as steps
+use Rattle.t1_rerun.specs.declared.settling.steps.RecordChange.{RecordChange}
+use Rattle.t1_rerun.specs.declared.settling.steps.RecordChange.TheVariants as steps
 use Rattle.t1_rerun.specs.declared.renewal.Renewal.{Renewal}
 use Rattle.t1_rerun.specs.Settled.{changed_keys, AreAsBefore, AreDistinctKeys, IsJudged}
 use Rattle.t1_rerun.specs.Steps.{entry_change, inserts, is_last, new_run, new_run_of, some_inserts, AreStepsOf, IsStepOf, LacksRun}
@@ -101,7 +101,7 @@ run-taken name old new g gone =
 -- ---- one step more
 
 -- where the runs of what a change names are the same, its step is
-pub step-by : (run run' : List ℕ → Option (TracedRun × Option BBox)) (count : Key → ℕ) (records : Records) (c : EntryChange) (s : Step)
+pub step-by : (run run' : List ℕ → Option (TracedRun × Option BBox)) (count : Key → ℕ) (records : Records) (c : EntryChange) (s : RecordChange)
     → ((g : List ℕ) → c.named ≡ named.Glyph g → run g ≡ run' g) → IsStepOf run count records c s → IsStepOf run' count records c s
 step-by run run' count records c (steps.Remove d) same is = (is.0, by is.1) where
   lacks : (d : Named) → c.named ≡ d → LacksRun run d → LacksRun run' d
@@ -122,7 +122,7 @@ pub apart-after : (xs : List EntryChange) (c : EntryChange) (done : List EntryCh
 apart-after [] c done d = d.0
 apart-after (x ∷ xs) c done d = apart-after xs c done d.1
 
-module _ (run : List ℕ → Option (TracedRun × Option BBox)) (count : Key → ℕ) (records : Records) (done : List EntryChange) (made : List Step)
+module _ (run : List ℕ → Option (TracedRun × Option BBox)) (count : Key → ℕ) (records : Records) (done : List EntryChange) (made : List RecordChange)
     (are : AreStepsOf run count records done made) where
   not-made : (c : EntryChange) → list_any (key_eq (key_of c.named)) (changed_keys done) ≡ false → (g : List ℕ) → c.named ≡ named.Glyph g → some_inserts made g ≡ false
   not-made c apart g is = by (some_inserts made g) refl where
@@ -134,12 +134,12 @@ module _ (run : List ℕ → Option (TracedRun × Option BBox)) (count : Key →
         absurd (cc)
 
   -- the step of the next change, by all runs
-  pub next-step : (c : EntryChange) (s : Step) (now : List ℕ → Option (TracedRun × Option BBox)) → list_any (key_eq (key_of c.named)) (changed_keys done) ≡ false
+  pub next-step : (c : EntryChange) (s : RecordChange) (now : List ℕ → Option (TracedRun × Option BBox)) → list_any (key_eq (key_of c.named)) (changed_keys done) ≡ false
       → ((g : List ℕ) → now g ≡ cond (some_inserts made g) None (run g)) → IsStepOf now count records c s → AreStepsOf run count records (c ∷ done) (made ++ s ∷ [])
   next-step c s now apart left is =
       (made, (s, (refl, (step-by now run count records c s (λ g e. left g ∙ ap (λ b. cond b None (run g)) (not-made c apart g e)) is, are))))
 
-pub runs-left : (made : List Step) (s : Step) (run now new : List ℕ → Option (TracedRun × Option BBox)) → ((g : List ℕ) → now g ≡ cond (some_inserts made g) None (run g))
+pub runs-left : (made : List RecordChange) (s : RecordChange) (run now new : List ℕ → Option (TracedRun × Option BBox)) → ((g : List ℕ) → now g ≡ cond (some_inserts made g) None (run g))
     → ((g : List ℕ) → new g ≡ cond (inserts s g) None (now g)) → (g : List ℕ) → new g ≡ cond (some_inserts (made ++ s ∷ []) g) None (run g)
 runs-left made s run now new was is g =
     is g ∙ ap (cond (inserts s g) None) (was g)
@@ -155,14 +155,14 @@ len-last : {X : Type 0} (xs : List X) (x : X) → length (xs ++ x ∷ []) ≡ le
 len-last [] x = refl
 len-last (y ∷ xs) x = let rest = len-last xs x in omega (arith, rest)
 
-pub count-next : (left rest : List EntryChange) (c : EntryChange) (made new : List Step) (s : Step) (n : ℕ) → left ≡ rest ++ c ∷ [] → new ≡ made ++ s ∷ []
+pub count-next : (left rest : List EntryChange) (c : EntryChange) (made new : List RecordChange) (s : RecordChange) (n : ℕ) → left ≡ rest ++ c ∷ [] → new ≡ made ++ s ∷ []
     → length left + length made ≡ n → length rest + length new ≡ n
 count-next left rest c made new s n e f h =
     let a = ap length e ∙ len-last rest c in
     let b = ap length f ∙ len-last made s in
     omega (arith, a, b, h)
 
-pub fewer-steps : (left rest : List Step) (s : Step) (was now : ℕ) → left ≡ rest ++ s ∷ [] → was ≤ now + 1 → length left ≤ was → length rest ≤ now
+pub fewer-steps : (left rest : List RecordChange) (s : RecordChange) (was now : ℕ) → left ≡ rest ++ s ∷ [] → was ≤ now + 1 → length left ≤ was → length rest ≤ now
 fewer-steps left rest s was now e used fits = let a = ap length e ∙ len-last rest s in omega (arith, a, used, fits)
 
 -- ---- outcomes
@@ -171,7 +171,7 @@ pub if-ok : {X E : Type 0} (P Q : X → Type 0) (r : Result X E) → IfOk r P �
 if-ok P Q (Ok x) h step = step x h
 if-ok P Q (Err e) h step = tt
 
-pub step-of : (c : EntryChange) (d : Named) (body : List Command) (run : List ℕ → Option (TracedRun × Option BBox)) (count : Key → ℕ) (records : Records) (s : Step)
+pub step-of : (c : EntryChange) (d : Named) (body : List Command) (run : List ℕ → Option (TracedRun × Option BBox)) (count : Key → ℕ) (records : Records) (s : RecordChange)
     → c.named ≡ d → c.body ≡ Some body → IsStepOf run count records (entry_change d (Some body) c.moved) s → IsStepOf run count records c s
 step-of c d body run count records s e f is =
     let same : c ≡ entry_change d (Some body) c.moved = (λ j. record { named = e j; body = f j; moved = c.moved }) in

@@ -27,7 +27,7 @@ use Rattle.t1_font.specs.declared.glyph_metrics.GlyphMetrics.{GlyphMetrics}
 use Rattle.t1_font.specs.MeasuredGlyphs.{glyph_metrics, measured, MeasuredFont}
 use Rattle.t1_font.specs.MetricsByRuns.{glyph_metrics_by}
 use Rattle.t1_cache.specs.declared.records.GlyphRecord.{GlyphRecord}
-use Rattle.t1_cache.specs.Recorded.{Kept, kept_of}
+use Rattle.t1_cache.specs.Recorded.{RecordedGlyph, kept_of}
 use Rattle.t1_rerun.specs.Measured.{kept_metrics}
 
 abbrev Entries : Type 0
@@ -108,7 +108,7 @@ reported-each run o (g ∷ names) ts e = one (glyph_of g (run g) (o g)) refl (gl
   one (Ok x) here (Err fault) there others e = absurd (cc)
   one (Err code) here rest there others e = absurd (cc)
 
-metrics-of : (kept : List Kept) (ts : List Reported) → map without_serial kept ≡ map shown_from ts
+metrics-of : (kept : List RecordedGlyph) (ts : List Reported) → map without_serial kept ≡ map shown_from ts
     → AllByRecursion (λ t. glyph_metrics_by t.name t.drawing (drawn_box t.outline) ≡ Ok (glyph_metrics t)) ts → kept_metrics kept ≡ Ok (map glyph_metrics ts)
 metrics-of [] [] e all = refl
 metrics-of [] (t ∷ ts) e all = absurd (cc)

@@ -23,7 +23,7 @@ use Rattle.t1_cache.specs.Edited.{is_stale, stale, IsEditedAt}
 use Rattle.t1_cache.specs.Kept.{KeepsAll}
 use Rattle.t1_cache.specs.Laws.{fault_check}
 use Rattle.t1_cache.specs.Renewal.{IsRenewed, kept_by}
-use Rattle.t1_cache.specs.Recorded.{IsFromScratch, IsOneOf, Kept, kept_of}
+use Rattle.t1_cache.specs.Recorded.{IsFromScratch, IsOneOf, RecordedGlyph, kept_of}
 use Rattle.t1_cache.specs.Renewed.{rerun_of, with_rerun}
 use Rattle.t1_cache.specs.Users.{has_pair, lists}
 use Rattle.t1_cache.proofs.Drawing.{all_draw}
@@ -82,14 +82,14 @@ rerun-there g (x ∷ rs) = by (bytes_eq g x.name.items) (rerun-there g rs) where
   by false rest = rest
 
 -- what makes a record, with the reruns that are left, one that was renewed
-pub record IsReady (keys : List Key) (old : SourceParts) (reruns left : List Rerun) (kept : List Kept) (k : Kept) : Type 0 where
+pub record IsReady (keys : List Key) (old : SourceParts) (reruns left : List Rerun) (kept : List RecordedGlyph) (k : RecordedGlyph) : Type 0 where
   pub again : list_any (bytes_eq k.name) (rerun_names left) ≡ true → is_stale old keys k.name ≡ true
   pub made : list_any (bytes_eq k.name) (rerun_names left) ≡ false → is_stale old keys k.name ≡ true → IsOneOf (map kept_by reruns) k
   pub fresh : is_stale old keys k.name ≡ false → IsOneOf kept k
 
-module _ (keys : List Key) (old : SourceParts) (reruns left : List Rerun) (kept : List Kept)
-    (more : (k : Kept) → IsOneOf (map kept_by left) k → IsOneOf (map kept_by reruns) k) where
-  pub renewed-one : (k : Kept) → IsReady keys old reruns left kept k → IsRenewedBy keys old reruns kept (with_rerun (rerun_of left k.name) k)
+module _ (keys : List Key) (old : SourceParts) (reruns left : List Rerun) (kept : List RecordedGlyph)
+    (more : (k : RecordedGlyph) → IsOneOf (map kept_by left) k → IsOneOf (map kept_by reruns) k) where
+  pub renewed-one : (k : RecordedGlyph) → IsReady keys old reruns left kept k → IsRenewedBy keys old reruns kept (with_rerun (rerun_of left k.name) k)
   renewed-one k ready = by (rerun_of left k.name) refl where
     by : (r : Option Rerun) → rerun_of left k.name ≡ r → IsRenewedBy keys old reruns kept (with_rerun r k)
     by None e = record { stale = λ on. ready.made (rerun-there k.name left ∙ ap is_some e) on; fresh = ready.fresh }
@@ -119,7 +119,7 @@ module _ (keys : List Key) (old new : SourceParts) (before : Records) (renewal :
   abbrev n : FontBodies
   n = bodies new.items
 
-  abbrev kept : List Kept
+  abbrev kept : List RecordedGlyph
   kept = map kept_of before.glyphs.entries
 
   abbrev reruns : List Rerun
@@ -154,7 +154,7 @@ module _ (keys : List Key) (old new : SourceParts) (before : Records) (renewal :
     by true on = among-passing (is_stale old keys) g (glyph_names new.items) there on
     by false off = among-off (is_stale old keys) g (glyph_names new.items) off
 
-  pub ready : (left : List Rerun) (k : Kept) → list_any (bytes_eq k.name) (rerun_names left) ≡ list_any (bytes_eq k.name) (rerun_names reruns)
+  pub ready : (left : List Rerun) (k : RecordedGlyph) → list_any (bytes_eq k.name) (rerun_names left) ≡ list_any (bytes_eq k.name) (rerun_names reruns)
       → has_glyph new k.name ≡ true → IsOneOf kept k → IsReady keys old reruns left kept k
   ready left k same there one = record {
     again = λ on. sym (rerun-stale k.name there) ∙ sym same ∙ on;
@@ -162,7 +162,7 @@ module _ (keys : List Key) (old new : SourceParts) (before : Records) (renewal :
     fresh = λ off. one;
   }
 
-  pub keeps-all : (records : List Kept) → map (λ k. k.name) records ≡ glyph_names new.items → AllByRecursion (IsRenewedBy keys old reruns kept) records
+  pub keeps-all : (records : List RecordedGlyph) → map (λ k. k.name) records ≡ glyph_names new.items → AllByRecursion (IsRenewedBy keys old reruns kept) records
       → KeepsAll new records
   keeps-all records order all =
       renewed keys old new edit (reported-of new fine).0 (reported-of new fine).1 kept records right.kept order
@@ -175,7 +175,7 @@ module _ (keys : List Key) (old new : SourceParts) (before : Records) (renewal :
   abbrev Settles : Records → Type 0
   Settles after = IsRight new after × AllByRecursion (IsRenewedBy keys old reruns kept) (map kept_of after.glyphs.entries)
 
-  pub settled : (after : Records) (records : List Kept) → SameBodies (record_bodies after) n → ((k : Key) (g : List ℕ) → lists after k g ≡ is_user k (own n g))
+  pub settled : (after : Records) (records : List RecordedGlyph) → SameBodies (record_bodies after) n → ((k : Key) (g : List ℕ) → lists after k g ≡ is_user k (own n g))
       → map kept_of after.glyphs.entries ≡ records → map (λ k. k.name) records ≡ glyph_names new.items → AllByRecursion (IsRenewedBy keys old reruns kept) records
       → Settles after
   settled after records same users e order all = (

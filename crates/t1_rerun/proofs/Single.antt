@@ -19,7 +19,7 @@ use Rattle.t1_cache.specs.declared.records.Named.TheVariants as named
 use Rattle.t1_cache.specs.Edited.{IsEditedAt}
 use Rattle.t1_cache.specs.Kept.{KeepsAll}
 use Rattle.t1_cache.specs.Laws.{AreDistinct}
-use Rattle.t1_cache.specs.Recorded.{Kept}
+use Rattle.t1_cache.specs.Recorded.{RecordedGlyph}
 use Rattle.t1_cache.specs.EditKeys.{key_of}
 use Rattle.t1_font.proofs.Lookups.{bytes_tell}
 use Rattle.t1_rerun.specs.declared.entry_change.EntryChange.{EntryChange}
@@ -72,7 +72,7 @@ one-order changes old new none order =
     others : (g : List ℕ) → not (has_glyph old g) ≡ (was_moved changes g || not (has_glyph old g))
     others g = ap (λ b. b || not (has_glyph old g)) (sym (none g))
 
-module _ (old new : SourceParts) (keeps : (ks : List Kept) × KeepsAll old ks) (new-has : (g : List ℕ) → has_glyph new g ≡ is_some ((bodies new.items).glyphs g))
+module _ (old new : SourceParts) (keeps : (ks : List RecordedGlyph) × KeepsAll old ks) (new-has : (g : List ℕ) → has_glyph new g ≡ is_some ((bodies new.items).glyphs g))
     (distinct : AreDistinct (glyph_names new.items)) where
   old-has : (g : List ℕ) → has_glyph old g ≡ is_some ((bodies old.items).glyphs g)
   old-has = has-body old keeps.1.glyphs keeps.1.faultless
@@ -151,7 +151,7 @@ last-glyph-unmoved old true (Some body) (named.Subr n) none = refl
 last-glyph-unmoved old true (Some body) (named.Glyph g) none =
     let never : true ≡ false = ap (λ b. b || false) (sym (bytes_tell.itself g)) ∙ none g in absurd (cc)
 
-pub one-last : (change : Option EntryChange) (old new : SourceParts) (ks : List Kept) → KeepsAll old ks → ((g : List ℕ) → has_glyph new g ≡ is_some ((bodies new.items).glyphs g))
+pub one-last : (change : Option EntryChange) (old new : SourceParts) (ks : List RecordedGlyph) → KeepsAll old ks → ((g : List ℕ) → has_glyph new g ≡ is_some ((bodies new.items).glyphs g))
     → IsEditedAt (changed_keys (option_to_list change)) old new → AllByRecursion (HasBody new) (option_to_list change) → AreDistinct (glyph_names new.items)
     → ((g : List ℕ) → was_moved (option_to_list change) g ≡ false)
     → filter (λ g. was_moved (option_to_list change) g || not (has_glyph old g)) (glyph_names new.items) ≡ last_glyphs old (option_to_list change)

@@ -21,7 +21,7 @@ use Rattle.t1_cache.specs.declared.records.Named.TheVariants as named
 use Rattle.t1_cache.specs.declared.records.Records.{Records}
 use Rattle.t1_cache.specs.Bodies.{record_bodies}
 use Rattle.t1_cache.specs.Renewed.{kept}
-use Rattle.t1_cache.specs.Recorded.{Kept}
+use Rattle.t1_cache.specs.Recorded.{RecordedGlyph}
 use Rattle.t1_cache.specs.Room.{MayJoin}
 use Rattle.t1_cache.specs.Users.{among, is_name_among, users_of, UserSet}
 use Rattle.t1_cache.specs.EditKeys.{key_of}
@@ -30,19 +30,19 @@ use Rattle.t1_cache.proofs.Lists.{all-weaken, all-last}
 use Rattle.t1_cache.proofs.Filtering.{filter-all, filter-both}
 use Rattle.t1_font.proofs.Lookups.{bytes_tell, bytes-turned}
 use Rattle.t1_rerun.specs.declared.entry_change.EntryChange.{EntryChange}
-use Rattle.t1_rerun.specs.declared.settling.steps.Step.{Step}
-use Rattle.t1_rerun.specs.declared.settling.steps.Step.TheVariants as steps
+use Rattle.t1_rerun.specs.declared.settling.steps.RecordChange.{RecordChange}
+use Rattle.t1_rerun.specs.declared.settling.steps.RecordChange.TheVariants as steps
 use Rattle.t1_rerun.specs.Right.{has_glyph}
 use Rattle.t1_rerun.specs.Settled.{changed_keys, last_glyph, last_glyphs, was_moved, AreDistinctKeys}
 use Rattle.t1_rerun.specs.Steps.{seen_after, after_all, inserts, is_last, some_inserts, step_body, step_key, step_kept, step_users, AreStepsOf, IsStepOf, LacksRun, Seen}
 
 -- ---- the last step comes first
 
-pub after-last : (steps : List Step) (step : Step) (x : Seen) → after_all (steps ++ step ∷ []) x ≡ after_all steps (seen_after step x)
+pub after-last : (steps : List RecordChange) (step : RecordChange) (x : Seen) → after_all (steps ++ step ∷ []) x ≡ after_all steps (seen_after step x)
 after-last [] step x = refl
 after-last (s ∷ steps) step x = ap (seen_after s) (after-last steps step x)
 
-pub inserts-last : (steps : List Step) (step : Step) (g : List ℕ) → some_inserts (steps ++ step ∷ []) g ≡ (some_inserts steps g || inserts step g)
+pub inserts-last : (steps : List RecordChange) (step : RecordChange) (g : List ℕ) → some_inserts (steps ++ step ∷ []) g ≡ (some_inserts steps g || inserts step g)
 inserts-last steps step g =
     list_any-append (λ s. inserts s g) steps (step ∷ [])
     ∙ ap (λ b. some_inserts steps g || b) (or-false (inserts step g))
@@ -53,14 +53,14 @@ pub named-key : (ks : List Key) (g : List ℕ) → list_any (is_key_of g) ks ≡
 named-key [] g = refl
 named-key (k ∷ ks) g = ap (λ b. b || list_any (is_key_of g) ks) (glyph-key g k) ∙ ap (λ b. key_eq (Glyph g) k || b) (named-key ks g)
 
-abbrev names : List Kept → List (List ℕ)
+abbrev names : List RecordedGlyph → List (List ℕ)
 names ks = map (λ k. k.name) ks
 
-names-append : (xs ys : List Kept) → names (xs ++ ys) ≡ names xs ++ names ys
+names-append : (xs ys : List RecordedGlyph) → names (xs ++ ys) ≡ names xs ++ names ys
 names-append [] ys = refl
 names-append (x ∷ xs) ys = ap (λ l. x.name ∷ l) (names-append xs ys)
 
-names-filtered : (p : List ℕ → Bool) (xs : List Kept) → names (filter (λ k. p k.name) xs) ≡ filter p (names xs)
+names-filtered : (p : List ℕ → Bool) (xs : List RecordedGlyph) → names (filter (λ k. p k.name) xs) ≡ filter p (names xs)
 names-filtered p [] = refl
 names-filtered p (k ∷ xs) = by (p k.name) (names-filtered p xs) where
   by : (b : Bool) → names (filter (λ k. p k.name) xs) ≡ filter p (names xs)
@@ -68,33 +68,33 @@ names-filtered p (k ∷ xs) = by (p k.name) (names-filtered p xs) where
   by true rest = ap (λ l. k.name ∷ l) rest
   by false rest = rest
 
-all-passing : (P Q : Kept → Type 0) (p : Kept → Bool) → ((k : Kept) → p k ≡ true → P k → Q k) → (xs : List Kept) → AllByRecursion P xs → AllByRecursion Q (filter p xs)
+all-passing : (P Q : RecordedGlyph → Type 0) (p : RecordedGlyph → Bool) → ((k : RecordedGlyph) → p k ≡ true → P k → Q k) → (xs : List RecordedGlyph) → AllByRecursion P xs → AllByRecursion Q (filter p xs)
 all-passing P Q p step [] all = tt
 all-passing P Q p step (x ∷ xs) all = by (p x) refl (all-passing P Q p step xs all.1) where
   by : (b : Bool) → p x ≡ b → AllByRecursion Q (filter p xs) → AllByRecursion Q (cond b (x ∷ filter p xs) (filter p xs))
   by true on rest = (step x on all.0, rest)
   by false off rest = rest
 
-pub kept-but-subr : (n : ℕ) (d : Named) (xs : List Kept) → d ≡ named.Subr n → xs ≡ filter (λ k. not (is_key_of k.name (key_of d))) xs
+pub kept-but-subr : (n : ℕ) (d : Named) (xs : List RecordedGlyph) → d ≡ named.Subr n → xs ≡ filter (λ k. not (is_key_of k.name (key_of d))) xs
 kept-but-subr n d xs e = sym (all xs) ∙ ap (λ x. filter (λ k. not (is_key_of k.name (key_of x))) xs) (sym e) where
-  all : (ks : List Kept) → filter (λ k. true) ks ≡ ks
+  all : (ks : List RecordedGlyph) → filter (λ k. true) ks ≡ ks
   all [] = refl
   all (k ∷ ks) = ap (λ l. k ∷ l) (all ks)
 
 -- ---- the steps of changes
 
 module _ (run : List ℕ → Option (TracedRun × Option BBox)) (count : Key → ℕ) (records : Records) where
-  abbrev Are : List EntryChange → List Step → Type 0
+  abbrev Are : List EntryChange → List RecordChange → Type 0
   Are = AreStepsOf run count records
 
-  abbrev Is : EntryChange → Step → Type 0
+  abbrev Is : EntryChange → RecordChange → Type 0
   Is = IsStepOf run count records
 
   -- a change of a glyph that is put in has a new run
   abbrev pub IsServed : EntryChange → Type 0
   IsServed c = is_last records c.moved c.named ≡ true → LacksRun run c.named → c.body ≡ None
 
-  pub key-step : (c : EntryChange) (s : Step) → Is c s → step_key s ≡ key_of c.named
+  pub key-step : (c : EntryChange) (s : RecordChange) → Is c s → step_key s ≡ key_of c.named
   key-step c (steps.Remove named) h = ap key_of (sym h.0)
   key-step c (steps.Put named body) h = ap key_of (sym h.0)
   key-step c (steps.InsertSubr n r) h = ap key_of (sym h.0)
@@ -107,7 +107,7 @@ module _ (run : List ℕ → Option (TracedRun × Option BBox)) (count : Key →
 
   -- ---- bodies
 
-  apart-bodies : (cs : List EntryChange) (ss : List Step) → Are cs ss → (x : Seen) (k : Key) → list_any (key_eq k) (changed_keys cs) ≡ false
+  apart-bodies : (cs : List EntryChange) (ss : List RecordChange) → Are cs ss → (x : Seen) (k : Key) → list_any (key_eq k) (changed_keys cs) ≡ false
       → (after_all ss x).bodies k ≡ x.bodies k
   apart-bodies [] ss h x k off = ap (λ l. (after_all l x).bodies k) h
   apart-bodies (c ∷ cs) ss h x k off =
@@ -123,7 +123,7 @@ module _ (run : List ℕ → Option (TracedRun × Option BBox)) (count : Key →
   put-some None body there = absurd (cc)
   put-some (Some old) body there = refl
 
-  body-step : (c : EntryChange) (s : Step) → Is c s → IsServed c → (was : Option (List Command)) → was ≡ body_at (record_bodies records) (key_of c.named)
+  body-step : (c : EntryChange) (s : RecordChange) → Is c s → IsServed c → (was : Option (List Command)) → was ≡ body_at (record_bodies records) (key_of c.named)
       → step_body s was ≡ c.body
   body-step c (steps.Remove named) h served was e = sym (gone c named served h.0 h.1)
   body-step c (steps.Put named body) h served was e =
@@ -133,7 +133,7 @@ module _ (run : List ℕ → Option (TracedRun × Option BBox)) (count : Key →
   body-step c (steps.InsertGlyph name r) h served was e = sym h.1.0
 
   -- each key has what the edited source has
-  pub bodies-stepped : (b : Key → Option (List Command)) (cs : List EntryChange) (ss : List Step) → Are cs ss → AreDistinctKeys (changed_keys cs)
+  pub bodies-stepped : (b : Key → Option (List Command)) (cs : List EntryChange) (ss : List RecordChange) → Are cs ss → AreDistinctKeys (changed_keys cs)
       → AllByRecursion IsServed cs → AllByRecursion (λ c. b (key_of c.named) ≡ c.body) cs → (x : Seen) (k : Key) → x.bodies k ≡ body_at (record_bodies records) k
       → (list_any (key_eq k) (changed_keys cs) ≡ false → body_at (record_bodies records) k ≡ b k) → (after_all ss x).bodies k ≡ b k
   bodies-stepped b [] ss h d served is_name_among x k was other = ap (λ l. (after_all l x).bodies k) h ∙ was ∙ other refl
@@ -158,7 +158,7 @@ module _ (run : List ℕ → Option (TracedRun × Option BBox)) (count : Key →
 
   -- ---- users
 
-  may-join-step : (c : EntryChange) (s : Step) → Is c s → (k : Key) (was : Option UserSet) → MayJoin (count k) was → (on : Bool) → key_eq k (step_key s) ≡ on
+  may-join-step : (c : EntryChange) (s : RecordChange) → Is c s → (k : Key) (was : Option UserSet) → MayJoin (count k) was → (on : Bool) → key_eq k (step_key s) ≡ on
       → MayJoin (count k) (cond on (step_users s was) was)
   may-join-step c s h k was had false e = had
   may-join-step c (steps.Remove named) h k was had true e = tt
@@ -168,7 +168,7 @@ module _ (run : List ℕ → Option (TracedRun × Option BBox)) (count : Key →
       subst (λ j. MayJoin (count j) (Some (users_of r.users))) (sym (key-same k (Glyph name.items) e)) h.1.1.1.0.1
 
   -- there is room for those that join
-  pub may-join-stepped : (cs : List EntryChange) (ss : List Step) → Are cs ss → (x : Seen) (k : Key) → MayJoin (count k) (x.users k) → MayJoin (count k) ((after_all ss x).users k)
+  pub may-join-stepped : (cs : List EntryChange) (ss : List RecordChange) → Are cs ss → (x : Seen) (k : Key) → MayJoin (count k) (x.users k) → MayJoin (count k) ((after_all ss x).users k)
   may-join-stepped [] ss h x k had = subst (λ l. MayJoin (count k) ((after_all l x).users k)) (sym h) had
   may-join-stepped (c ∷ cs) ss h x k had =
       subst (λ y. MayJoin (count k) (y.users k)) (sym (ap (λ l. after_all l x) h.1.1.0 ∙ after-last h.0 h.1.0 x))
@@ -178,7 +178,7 @@ module _ (run : List ℕ → Option (TracedRun × Option BBox)) (count : Key →
   abbrev pub StayOrGo : List EntryChange → Key → Option UserSet → Option UserSet → Type 0
   StayOrGo cs k was now = (now ≡ was) ⊎ ((list_any (key_eq k) (changed_keys cs) ≡ true) × ((u : List ℕ) → among now u ≡ false))
 
-  users-step : (c : EntryChange) (s : Step) → Is c s → (k : Key) (was : Option UserSet) → (on : Bool) → key_eq k (step_key s) ≡ on
+  users-step : (c : EntryChange) (s : RecordChange) → Is c s → (k : Key) (was : Option UserSet) → (on : Bool) → key_eq k (step_key s) ≡ on
       → (cond on (step_users s was) was ≡ was) ⊎ ((u : List ℕ) → among (cond on (step_users s was) was) u ≡ false)
   users-step c s h k was false e = inl refl
   users-step c (steps.Remove named) h k was true e = inr (λ u. refl)
@@ -186,7 +186,7 @@ module _ (run : List ℕ → Option (TracedRun × Option BBox)) (count : Key →
   users-step c (steps.InsertSubr n r) h k was true e = inr (λ u. ap (λ l. is_name_among (λ name. name.items) l u) h.1.1.0)
   users-step c (steps.InsertGlyph name r) h k was true e = inr (λ u. ap (λ l. is_name_among (λ name. name.items) l u) h.1.1.1.0.0)
 
-  pub users-stepped : (cs : List EntryChange) (ss : List Step) → Are cs ss → (x : Seen) (k : Key) → StayOrGo cs k (x.users k) ((after_all ss x).users k)
+  pub users-stepped : (cs : List EntryChange) (ss : List RecordChange) → Are cs ss → (x : Seen) (k : Key) → StayOrGo cs k (x.users k) ((after_all ss x).users k)
   users-stepped [] ss h x k = inl (ap (λ l. (after_all l x).users k) h)
   users-stepped (c ∷ cs) ss h x k =
       subst (λ y. StayOrGo (c ∷ cs) k (x.users k) (y.users k)) (sym (ap (λ l. after_all l x) h.1.1.0 ∙ after-last h.0 h.1.0 x))
@@ -234,7 +234,7 @@ module _ (run : List ℕ → Option (TracedRun × Option BBox)) (count : Key →
     last-is moved body (named.Glyph g) e = ap (λ b. cond b (g ∷ []) []) (ap (λ b. moved || b) (sym (there g)) ∙ e)
 
     -- names with one step made
-    names-step : (c : EntryChange) (s : Step) → Is c s → IsServed c → (ks : List Kept)
+    names-step : (c : EntryChange) (s : RecordChange) → Is c s → IsServed c → (ks : List RecordedGlyph)
         → names (step_kept s ks) ≡ filter (λ g. not (leaves_at c g)) (names ks) ++ last_of c
     names-step c (steps.Remove d) h served ks =
         let none = gone c d served h.0 h.1 in
@@ -296,7 +296,7 @@ module _ (run : List ℕ → Option (TracedRun × Option BBox)) (count : Key →
       by false = refl
 
     -- the names after all steps: those that keep their places, then the last ones
-    pub names-stepped : (cs : List EntryChange) (ss : List Step) → Are cs ss → AreDistinctKeys (changed_keys cs) → AllByRecursion IsServed cs → (x : Seen)
+    pub names-stepped : (cs : List EntryChange) (ss : List RecordChange) → Are cs ss → AreDistinctKeys (changed_keys cs) → AllByRecursion IsServed cs → (x : Seen)
         → names (after_all ss x).kept ≡ filter (λ g. not (leaves cs g)) (names x.kept) ++ last_glyphs old cs
     names-stepped [] ss h d served x =
         ap (λ l. names (after_all l x).kept) h ∙ sym (filter-all (names x.kept)) ∙ sym (append-nil (filter (λ g. true) (names x.kept)))
@@ -355,7 +355,7 @@ module _ (run : List ℕ → Option (TracedRun × Option BBox)) (count : Key →
   -- ---- what is kept
 
   -- what holds of each new record, and of each record that none takes the place of, holds of all
-  pub kept-stepped : (Q : Kept → Type 0) (cs : List EntryChange) (ss : List Step) → Are cs ss
+  pub kept-stepped : (Q : RecordedGlyph → Type 0) (cs : List EntryChange) (ss : List RecordChange) → Are cs ss
       → ((name : List ℕ) (r : TracedRun) (box : Option BBox) → some_inserts ss name ≡ true → run name ≡ Some (r, box) → Q (kept name r box))
       → (x : Seen) → AllByRecursion (λ k. some_inserts ss k.name ≡ false → Q k) x.kept → AllByRecursion Q (after_all ss x).kept
   kept-stepped Q [] ss h each x all =
@@ -368,15 +368,15 @@ module _ (run : List ℕ → Option (TracedRun × Option BBox)) (count : Key →
       (seen_after h.1.0 x) (by h.1.0 refl))
     where
       -- of the steps that are left none puts in this glyph
-      P : Kept → Type 0
+      P : RecordedGlyph → Type 0
       P k = some_inserts h.0 k.name ≡ false → Q k
 
-      earlier : (s : Step) → h.1.0 ≡ s → (k : Kept) → inserts s k.name ≡ false → (some_inserts ss k.name ≡ false → Q k) → P k
+      earlier : (s : RecordChange) → h.1.0 ≡ s → (k : RecordedGlyph) → inserts s k.name ≡ false → (some_inserts ss k.name ≡ false → Q k) → P k
       earlier s is k apart q off =
           q (ap (λ l. some_inserts l k.name) h.1.1.0 ∙ inserts-last h.0 h.1.0 k.name
           ∙ ap (λ b. b || inserts h.1.0 k.name) off ∙ ap (λ t. inserts t k.name) is ∙ apart)
 
-      by : (s : Step) → h.1.0 ≡ s → AllByRecursion P (step_kept s x.kept)
+      by : (s : RecordChange) → h.1.0 ≡ s → AllByRecursion P (step_kept s x.kept)
       by (steps.Remove d) is =
           all-passing (λ k. some_inserts ss k.name ≡ false → Q k) P (λ k. not (is_key_of k.name (key_of d))) (λ k on q. earlier (steps.Remove d) is k refl q) x.kept all
       by (steps.Put d body) is = all-weaken (λ k. some_inserts ss k.name ≡ false → Q k) P (λ k q. earlier (steps.Put d body) is k refl q) x.kept all
@@ -394,13 +394,13 @@ module _ (run : List ℕ → Option (TracedRun × Option BBox)) (count : Key →
           run-of g = g.1.1.1.1
 
   -- a glyph that is put in is named
-  pub inserted-named : (cs : List EntryChange) (ss : List Step) → Are cs ss → (g : List ℕ) → some_inserts ss g ≡ true → list_any (key_eq (Glyph g)) (changed_keys cs) ≡ true
+  pub inserted-named : (cs : List EntryChange) (ss : List RecordChange) → Are cs ss → (g : List ℕ) → some_inserts ss g ≡ true → list_any (key_eq (Glyph g)) (changed_keys cs) ≡ true
   inserted-named [] ss h g on = let never : false ≡ true = ap (λ l. some_inserts l g) (sym h) ∙ on in absurd (cc)
   inserted-named (c ∷ cs) ss h g on =
       by (some_inserts h.0 g) refl h.1.0 h.1.1.1.0 (sym (ap (λ l. some_inserts l g) h.1.1.0 ∙ inserts-last h.0 h.1.0 g) ∙ on)
       (inserted-named cs h.0 h.1.1.1.1 g)
     where
-      by : (b : Bool) → some_inserts h.0 g ≡ b → (s : Step) → Is c s → (some_inserts h.0 g || inserts s g) ≡ true
+      by : (b : Bool) → some_inserts h.0 g ≡ b → (s : RecordChange) → Is c s → (some_inserts h.0 g || inserts s g) ≡ true
           → (some_inserts h.0 g ≡ true → list_any (key_eq (Glyph g)) (changed_keys cs) ≡ true)
           → (key_eq (Glyph g) (key_of c.named) || list_any (key_eq (Glyph g)) (changed_keys cs)) ≡ true
       by true e s is both rest = or_right (key_eq (Glyph g) (key_of c.named)) (list_any (key_eq (Glyph g)) (changed_keys cs)) (rest e)

@@ -13,7 +13,7 @@ use Rattle.t1_font.specs.Runs.{NamedRun as KeptRun, run_kept, drawing_in}
 use Rattle.t1_cache.specs.declared.records.Records.{Records}
 use Rattle.t1_cache.specs.Bodies.{record_bodies}
 use Rattle.t1_cache.specs.Laws.{AreDistinct}
-use Rattle.t1_cache.specs.Recorded.{Kept, kept_of}
+use Rattle.t1_cache.specs.Recorded.{RecordedGlyph, kept_of}
 use Rattle.t1_cache.specs.Users.{lists}
 use Rattle.t1_rerun.specs.Renewals.{HasBox, HasRun}
 
@@ -30,7 +30,7 @@ pub record AreMeasured (m : FontBodies) (runs : List KeptRun) (metrics : List Gl
   pub draw : (g : List ℕ) → drawing_in runs g ≡ own m g
 
 -- word: a record has the run that was kept, and the box that was measured
-pub record IsRecorded (runs : List KeptRun) (metrics : List GlyphMetrics) (k : Kept) : Type 0 where
+pub record IsRecorded (runs : List KeptRun) (metrics : List GlyphMetrics) (k : RecordedGlyph) : Type 0 where
   pub run : run_kept runs k.name ≡ Some (Ok k.run)
   pub box : HasBox metrics k.name k.box
 

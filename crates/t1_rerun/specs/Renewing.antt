@@ -9,7 +9,7 @@ use Rattle.t1_source.specs.WellFormed.{IsWellFormed}
 use Rattle.t1_run.specs.Run.{Key, Subr, Glyph}
 use Rattle.t1_cache.specs.declared.records.Records.{Records}
 use Rattle.t1_cache.specs.Edited.{is_stale}
-use Rattle.t1_cache.specs.Recorded.{IsOneOf, Kept}
+use Rattle.t1_cache.specs.Recorded.{IsOneOf, RecordedGlyph}
 use Rattle.t1_rerun.specs.RunNumbers.{IsRunAfter}
 use Rattle.t1_rerun.specs.Right.{IsRight}
 
@@ -39,6 +39,6 @@ entry_key (RemoveSubr n) = number_key n
 entry_key _ = None
 
 -- word: a glyph that edits at these keys make stale has a run after this count, and each other glyph what was kept of it
-pub record IsRunWhereStale (count : ℕ) (keys : List Key) (old : SourceParts) (kept : List Kept) (k : Kept) : Type 0 where
+pub record IsRunWhereStale (count : ℕ) (keys : List Key) (old : SourceParts) (kept : List RecordedGlyph) (k : RecordedGlyph) : Type 0 where
   pub stale : is_stale old keys k.name ≡ true → IsRunAfter count k
   pub fresh : is_stale old keys k.name ≡ false → IsOneOf kept k

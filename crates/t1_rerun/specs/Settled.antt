@@ -19,7 +19,7 @@ use Rattle.t1_cache.specs.Bodies.{record_bodies}
 use Rattle.t1_cache.specs.Edited.{is_stale, IsEditedAt}
 use Rattle.t1_cache.specs.Laws.{AreDistinct}
 use Rattle.t1_cache.specs.Renewal.{kept_by}
-use Rattle.t1_cache.specs.Recorded.{IsOneOf, Kept, kept_of}
+use Rattle.t1_cache.specs.Recorded.{IsOneOf, RecordedGlyph, kept_of}
 use Rattle.t1_cache.specs.Renewed.{reruns_by_name}
 use Rattle.t1_cache.specs.Room.{MayJoin}
 use Rattle.t1_cache.specs.Users.{lists, users_at, pairs_of_key}
@@ -77,7 +77,7 @@ abbrev pub MayBeJudged : List EntryChange → Records → Renewal → Type 0
 MayBeJudged changes records renewal = (old : SourceParts) × ((new : SourceParts) × IsJudged changes old new records renewal)
 
 -- word: a stale glyph has the run and box of a rerun, and each other glyph what was kept of it
-pub record IsRenewedBy (keys : List Key) (old : SourceParts) (reruns : List Rerun) (kept : List Kept) (k : Kept) : Type 0 where
+pub record IsRenewedBy (keys : List Key) (old : SourceParts) (reruns : List Rerun) (kept : List RecordedGlyph) (k : RecordedGlyph) : Type 0 where
   pub stale : is_stale old keys k.name ≡ true → IsOneOf (map kept_by reruns) k
   pub fresh : is_stale old keys k.name ≡ false → IsOneOf kept k
 

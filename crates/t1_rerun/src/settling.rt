@@ -17,14 +17,14 @@ use crate::entry_change::EntryChange;
 use crate::renewal::Renewal;
 use preparing::{runs_by_name, steps_with_room, taken_out};
 use std::alloc::{AllocError, Global};
-use steps::{Step, change_all};
+use steps::{RecordChange, change_all};
 use t1_cache::{Named, Names, NewRuns, Records, make_room, move_users, renew_by_name};
 
 /// The changes of records, with all the memory that they take.
 #[derive(Drop)]
 pub struct Ready {
     // The first is the last.
-    steps: Vec<Step>,
+    steps: Vec<RecordChange>,
     // The glyphs whose records leave their places.
     taken: Names,
     runs: NewRuns,

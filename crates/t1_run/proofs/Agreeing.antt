@@ -12,7 +12,7 @@ use Rattle.t1_run.specs.State.{State, initial}
 use Rattle.t1_run.specs.Step.{Step, Next, Call, Back, End, Compose, Fault}
 use Rattle.t1_run.specs.Words.{step}
 use Rattle.t1_run.specs.Footprint.{Includes, AgreeOn, FootprintLaw, KeysFrom, keys_after, keys_of_names, keys_of_parts, keys_of_step, keys_of_words, keys_of_body, keys_of_call, asked_of, foot}
-use Rattle.t1_run.specs.Run.{FontBodies, Key, Subr, Glyph, Stop, OutOfWords, Returned, Completed, Failed, Runner, Caller, go_on, act, run_words, call_within, called, too_deep, composed, standard_glyph, entering, body_stop, own, own_of, outcome_of}
+use Rattle.t1_run.specs.Run.{FontBodies, Key, Subr, Glyph, RunEnd, OutOfWords, Returned, Completed, Failed, Runner, Caller, go_on, act, run_words, call_within, called, too_deep, composed, standard_glyph, entering, body_stop, own, own_of, outcome_of}
 
 pub agree-part : {m n : FontBodies} {ks ks' : List Key} → AgreeOn m n ks' → ((k : Key) → Includes ks k → Includes ks' k) → AgreeOn m n ks
 agree-part h inside = record { same = λ k i. h.same k (inside k i) }
@@ -67,7 +67,7 @@ names-same {m = m} {n = n} a (Some base) (Some accent) h =
 
 -- ---- words and calls
 
-go_on-same : {m n : FontBodies} (next next' : Runner) (keys keys' : KeysFrom) → SameRun m n next next' keys keys' → (e : Stop)
+go_on-same : {m n : FontBodies} (next next' : Runner) (keys keys' : KeysFrom) → SameRun m n next next' keys keys' → (e : RunEnd)
     → AgreeOn m n (keys_after keys e) → (go_on next' e ≡ go_on next e) × (keys_after keys' e ≡ keys_after keys e)
 go_on-same next next' keys keys' same (OutOfWords s) h = same s h
 go_on-same next next' keys keys' same (Returned s) h = same s h

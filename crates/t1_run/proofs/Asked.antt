@@ -15,7 +15,7 @@ use Rattle.t1_run.specs.declared.outline.Accent.{Accent}
 use Rattle.t1_run.specs.declared.outline.Composite.{Composite}
 use Rattle.t1_run.specs.declared.outline.Metric.{Metric}
 use Rattle.t1_run.specs.Footprint.{Includes, KeysFrom, keys_after, keys_of_names, keys_of_parts, keys_of_step, keys_of_words, keys_of_body, keys_of_call, asked_of, foot, Leaves, asks, uses, HasParts, ExactLaw, PartsLaw}
-use Rattle.t1_run.specs.Run.{FontBodies, Key, Subr, Glyph, Stop, OutOfWords, Returned, Completed, Failed, Runner, Caller, Drawing, go_on, act, run_words, call_within, called, too_deep, composed, standard_glyph, entered_with, entering, body_stop, own, own_of, drawing_of, outcome_of}
+use Rattle.t1_run.specs.Run.{FontBodies, Key, Subr, Glyph, RunEnd, OutOfWords, Returned, Completed, Failed, Runner, Caller, Drawing, go_on, act, run_words, call_within, called, too_deep, composed, standard_glyph, entered_with, entering, body_stop, own, own_of, drawing_of, outcome_of}
 use Rattle.t1_run.specs.State.{State, initial}
 use Rattle.t1_run.specs.Step.{Step, Next, Call, Back, End, Compose, Fault}
 use Rattle.t1_run.specs.Words.{step}
@@ -46,7 +46,7 @@ record Over (m : FontBodies) (composite : Option Composite) (asked : List Key) (
   parts : HasParts m composite
   steps : s.steps ≤ 100000
 
-abbrev Stops : FontBodies → List Key → Stop → Type 0
+abbrev Stops : FontBodies → List Key → RunEnd → Type 0
 Stops m asked (OutOfWords s) = Under m asked s
 Stops m asked (Returned s) = Under m asked s
 Stops m asked (Completed composite s) = Over m composite asked s
@@ -187,7 +187,7 @@ names-end m a (Some base) (Some accent) asked s h = parts-end m a base accent (m
 -- ---- words, calls and runs
 
 -- nothing more is asked for
-no-more : (m : FontBodies) (asked : List Key) (e : Stop) → Stops m asked e → Stops m (asked ++ []) e
+no-more : (m : FontBodies) (asked : List Key) (e : RunEnd) → Stops m asked e → Stops m (asked ++ []) e
 no-more m asked e h = subst (λ ks. Stops m ks e) (sym (append-nil asked)) h
 
 under-stepped : (m : FontBodies) (asked : List Key) (s t : State) → Stepped s t → Under m asked s → Under m asked t
@@ -197,7 +197,7 @@ under-stepped m asked s t st h = record {
   steps = st.within;
 }
 
-go_on-stops : (m : FontBodies) (next : Runner) (keys : KeysFrom) → Runs m next keys → (asked : List Key) (e : Stop) → Stops m asked e
+go_on-stops : (m : FontBodies) (next : Runner) (keys : KeysFrom) → Runs m next keys → (asked : List Key) (e : RunEnd) → Stops m asked e
     → Stops m (asked ++ keys_after keys e) (go_on next e)
 go_on-stops m next keys runs asked (OutOfWords s) h = runs asked s h
 go_on-stops m next keys runs asked (Returned s) h = runs asked s h
@@ -276,7 +276,7 @@ reported-metric m (Some metric) composite asked s d h e =
     let same : record { width = metric.width; bearing = metric.bearing; segments = s.segments; composite = composite; entered = s.entered; steps = s.steps } ≡ d = cc in
     subst (λ d'. Reported m d' asked) same (record { keys = h.keys; subrs = h.subrs; parts = h.parts; steps = h.steps })
 
-reported-stop : (m : FontBodies) (asked : List Key) (e : Stop) (d : Drawing) → Stops m asked e → outcome_of e ≡ Ok d → Reported m d asked
+reported-stop : (m : FontBodies) (asked : List Key) (e : RunEnd) (d : Drawing) → Stops m asked e → outcome_of e ≡ Ok d → Reported m d asked
 reported-stop m asked (OutOfWords s) d h e = absurd (cc)
 reported-stop m asked (Returned s) d h e = absurd (cc)
 reported-stop m asked (Completed composite s) d h e = reported-metric m s.metric composite asked s d h e

@@ -9,11 +9,11 @@ use Rattle.t1_run.specs.Composite.{HasStandardParts}
 use Rattle.t1_run.specs.State.{State, initial}
 use Rattle.t1_run.specs.Step.{Step, Next, Call, Back, End, Compose, Fault}
 use Rattle.t1_run.specs.Words.{step}
-use Rattle.t1_run.specs.Run.{FontBodies, Stop, OutOfWords, Returned, Completed, Failed, Runner, Caller, Drawing, entering, composite_of, composed, go_on, act, run_words, called, too_deep, call_within, body_stop, drawing_of, outcome_of, own, own_of}
+use Rattle.t1_run.specs.Run.{FontBodies, RunEnd, OutOfWords, Returned, Completed, Failed, Runner, Caller, Drawing, entering, composite_of, composed, go_on, act, run_words, called, too_deep, call_within, body_stop, drawing_of, outcome_of, own, own_of}
 use Rattle.t1_run.proofs.Naming.{standard_parts}
 
 -- so do those of a stop
-abbrev StopsWell : Stop → Type 0
+abbrev StopsWell : RunEnd → Type 0
 StopsWell (OutOfWords s) = Unit {0}
 StopsWell (Returned s) = Unit {0}
 StopsWell (Completed composite s) = IfSome composite HasStandardParts
@@ -24,7 +24,7 @@ composed-well : (glyphs : List ℕ → Option (List Command)) (a : Rattle.t1_run
 composed-well glyphs a (Ok c) s e = standard_parts glyphs a c e
 composed-well glyphs a (Err fault) s e = tt
 
-go_on-well : (next : Runner) (stop : Stop) → StopsWell stop → ((s : State) → StopsWell (next s)) → StopsWell (go_on next stop)
+go_on-well : (next : Runner) (stop : RunEnd) → StopsWell stop → ((s : State) → StopsWell (next s)) → StopsWell (go_on next stop)
 go_on-well next (OutOfWords s) h rest = rest s
 go_on-well next (Returned s) h rest = rest s
 go_on-well next (Completed composite s) h rest = h
@@ -56,7 +56,7 @@ stop-well : (m : FontBodies) (body : List Command) → StopsWell (body_stop m bo
 unfolding body_stop
 stop-well m body = words-well m (call_within m 10) (calls-well m 10) body initial
 
-drawn-well : (stop : Stop) (d : Drawing) (c : Composite) → StopsWell stop → outcome_of stop ≡ Ok d → d.composite ≡ Some c → HasStandardParts c
+drawn-well : (stop : RunEnd) (d : Drawing) (c : Composite) → StopsWell stop → outcome_of stop ≡ Ok d → d.composite ≡ Some c → HasStandardParts c
 drawn-well (OutOfWords s) d c h e is = absurd (cc)
 drawn-well (Returned s) d c h e is = absurd (cc)
 drawn-well (Failed fault) d c h e is = absurd (cc)

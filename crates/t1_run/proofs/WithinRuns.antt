@@ -9,7 +9,7 @@ use Rattle.t1_code.specs.declared.command.Command.{Command}
 use Rattle.t1_run.specs.declared.outline.Accent.{Accent}
 use Rattle.t1_run.specs.declared.outline.Composite.{Composite}
 use Rattle.t1_run.specs.declared.outline.Metric.{Metric}
-use Rattle.t1_run.specs.Run.{FontBodies, Stop, OutOfWords, Returned, Completed, Failed, Runner, Caller, Drawing, go_on, act, run_words, call_within, called, too_deep, composed, composite_of, standard_glyph, entering, body_stop, own, own_of, drawing_of, outcome_of}
+use Rattle.t1_run.specs.Run.{FontBodies, RunEnd, OutOfWords, Returned, Completed, Failed, Runner, Caller, Drawing, go_on, act, run_words, call_within, called, too_deep, composed, composite_of, standard_glyph, entering, body_stop, own, own_of, drawing_of, outcome_of}
 use Rattle.t1_run.specs.State.{State, initial}
 use Rattle.t1_run.specs.Step.{Step, Next, Call, Back, End, Compose, Fault}
 use Rattle.t1_run.specs.Words.{step}
@@ -21,7 +21,7 @@ pub record PartsWithin (c : Composite) : Type 0 where
   pub adx : IsValue c.adx
   pub ady : IsValue c.ady
 
-abbrev pub StopWithin : Stop → Type 0
+abbrev pub StopWithin : RunEnd → Type 0
 StopWithin (OutOfWords s) = StateWithin s
 StopWithin (Returned s) = StateWithin s
 StopWithin (Completed composite s) = IfSome composite PartsWithin × StateWithin s
@@ -54,7 +54,7 @@ composed-within (Err fault) s k h = tt
 
 -- ---- words, calls and runs
 
-go_on-within : (next : Runner) → RunsWithin next → (e : Stop) → StopWithin e → StopWithin (go_on next e)
+go_on-within : (next : Runner) → RunsWithin next → (e : RunEnd) → StopWithin e → StopWithin (go_on next e)
 go_on-within next runs (OutOfWords s) h = runs s h
 go_on-within next runs (Returned s) h = runs s h
 go_on-within next runs (Completed composite s) h = h
@@ -118,7 +118,7 @@ drawing-within : (metric : Option Metric) (composite : Option Composite) (s : St
 drawing-within None composite s k c h = tt
 drawing-within (Some metric) composite s k c h = record { width = k.width; bearing = k.bearing; segments = h.segments; parts = c }
 
-pub outcome-within : (e : Stop) → StopWithin e → IfOk (outcome_of e) DrawingWithin
+pub outcome-within : (e : RunEnd) → StopWithin e → IfOk (outcome_of e) DrawingWithin
 outcome-within (OutOfWords s) h = tt
 outcome-within (Returned s) h = tt
 outcome-within (Completed composite s) h = drawing-within s.metric composite s h.1.metric h.0 h.1

@@ -9,10 +9,10 @@ use Rattle.t1_run.specs.declared.state.State.{State as StateFields}
 use Rattle.t1_run.specs.State.{State}
 use Rattle.t1_run.specs.Words.{step}
 use Rattle.t1_run.specs.Machine.{state_of, asked_step, RefusesStep, refusal_by}
-use Rattle.t1_run.specs.Run.{FontBodies, Stop, go_on, runs, body_stop}
+use Rattle.t1_run.specs.Run.{FontBodies, RunEnd, go_on, runs, body_stop}
 
 -- word: where a body stopped, the bodies that wait go on, the innermost first; `levels` is what was left there
-abbrev pub resume : FontBodies → ℕ → List (List Command) → Stop → Stop
+abbrev pub resume : FontBodies → ℕ → List (List Command) → RunEnd → RunEnd
 resume m levels [] e = e
 resume m levels (rest ∷ waiting) e = resume m (suc levels) waiting (go_on (runs m (suc levels) rest) e)
 

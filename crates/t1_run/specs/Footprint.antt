@@ -9,7 +9,7 @@ use Rattle.t1_run.specs.declared.outline.Composite.{Composite}
 use Rattle.t1_run.specs.State.{State, initial}
 use Rattle.t1_run.specs.Step.{Step, Next, Call, Back, End, Compose, Fault}
 use Rattle.t1_run.specs.Words.{step}
-use Rattle.t1_run.specs.Run.{FontBodies, Key, Subr, Glyph, Stop, OutOfWords, Returned, Drawing, standard_glyph, entering, call_within, own}
+use Rattle.t1_run.specs.Run.{FontBodies, Key, Subr, Glyph, RunEnd, OutOfWords, Returned, Drawing, standard_glyph, entering, call_within, own}
 use Rattle.t1_run.specs.Composite.{outline}
 
 -- ---- what a run asks of the maps
@@ -19,7 +19,7 @@ abbrev pub KeysFrom : Type 0
 KeysFrom = State → List Key
 
 -- profile: the keys after a call that stopped so: those of the words after it, from the state that it left
-abbrev pub keys_after : KeysFrom → Stop → List Key
+abbrev pub keys_after : KeysFrom → RunEnd → List Key
 keys_after next (OutOfWords s) = next s
 keys_after next (Returned s) = next s
 keys_after next _ = []

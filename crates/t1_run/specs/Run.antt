@@ -30,19 +30,19 @@ pub data Key : Type 0 where
   Glyph : List ℕ → Key
 
 -- profile: how a list of commands stops
-pub data Stop : Type 0 where
+pub data RunEnd : Type 0 where
   -- after its last word
-  OutOfWords : State → Stop
+  OutOfWords : State → RunEnd
   -- by return
-  Returned : State → Stop
+  Returned : State → RunEnd
   -- by endchar, or by seac with the parts that it found
-  Completed : Option Composite → State → Stop
+  Completed : Option Composite → State → RunEnd
   -- by a fault
-  Failed : Code → Stop
+  Failed : Code → RunEnd
 
 -- profile: what a list of commands does from a state
 abbrev pub Runner : Type 0
-Runner = State → Stop
+Runner = State → RunEnd
 
 -- profile: what a call of a Subr does from there
 abbrev pub Caller : Type 0
@@ -83,14 +83,14 @@ composed (Err fault) s = Failed fault
 -- ---- words and calls
 
 -- Type 1 Font Format, Chapter 6 (return): where a Subr is over, the caller goes on
-abbrev pub go_on : Runner → Stop → Stop
+abbrev pub go_on : Runner → RunEnd → RunEnd
 go_on next (OutOfWords s) = next s
 go_on next (Returned s) = next s
 go_on next (Completed composite s) = Completed composite s
 go_on next (Failed fault) = Failed fault
 
 -- profile: what a word's step does to the run
-abbrev pub act : FontBodies → Caller → Runner → Step → Stop
+abbrev pub act : FontBodies → Caller → Runner → Step → RunEnd
 act m caller next (Next s) = next s
 act m caller next (Call n s) = go_on next (caller n s)
 act m caller next (Back s) = Returned s
@@ -122,7 +122,7 @@ abbrev pub runs : FontBodies → ℕ → List Command → Runner
 runs m levels = run_words m (call_within m levels)
 
 -- profile, limits: how a glyph's own body stops, in which ten Subrs may be active
-unfoldable pub body_stop : FontBodies → List Command → Stop
+unfoldable pub body_stop : FontBodies → List Command → RunEnd
 body_stop m body = runs m 10 body initial
 
 -- ---- what a run answers
@@ -156,7 +156,7 @@ drawing_of (Some metric) composite s =
     })
 
 -- Type 1 Font Format, Chapter 6 (endchar): a glyph's own body ends by endchar or seac
-abbrev pub outcome_of : Stop → Result Drawing Code
+abbrev pub outcome_of : RunEnd → Result Drawing Code
 outcome_of (OutOfWords s) = Err F35
 outcome_of (Returned s) = Err F34
 outcome_of (Completed composite s) = drawing_of s.metric composite s

@@ -1,7 +1,7 @@
 //! The calls of a session, each in a function of its own: a function is proved with the whole
 //! contracts of all calls that it makes.
 
-ghost use Rattle.t1_commands.specs.declared.command.Command.TheVariants as commands;
+ghost use Rattle.t1_commands.specs.declared.command.SessionCommand.TheVariants as commands;
 ghost use Rattle.t1_session.specs.Outcomes.{Takes, TakesOrReturns};
 
 use std::alloc::Global;

@@ -8,7 +8,9 @@ use crate::stop::Stop;
 use std::alloc::{AllocError, Global};
 use std::io::{Stdout, Write};
 use t1_code::{Counted, OutError};
-use t1_commands::{Command, Print, answer_of, body_command, line_command, put_answer, takes_body};
+use t1_commands::{
+    Print, SessionCommand, answer_of, body_command, line_command, put_answer, takes_body,
+};
 use t1_frac::{Bytes, Refusal, next_word};
 use t1_pairs::read_pairs;
 use t1_session::Session;
@@ -39,7 +41,7 @@ fn after_word(line: &[u8]) -> &[u8] {
 
 /// The command of a line. The body of one that takes it stands on the same line, after its three
 /// words.
-fn command_of(alloc: Global, line: &[u8]) -> Result<Command, AllocError> {
+fn command_of(alloc: Global, line: &[u8]) -> Result<SessionCommand, AllocError> {
     if !takes_body(line) {
         return line_command(alloc, line);
     }
@@ -139,17 +141,17 @@ fn edit(
 fn perform(
     alloc: Global,
     session: &mut Session,
-    command: Command,
+    command: SessionCommand,
     out: &mut Counted<Stdout>,
 ) -> Result<(), Stop> {
     match command {
-        Command::Edit(it) => edit(alloc, session, it, out),
-        Command::Begin => put_answered(alloc, begin(session), session, out),
-        Command::Commit => put_answered(alloc, commit(session), session, out),
-        Command::Abort => put_answered(alloc, abort(session), session, out),
-        Command::Print(print) => put_print(session, print, out),
-        Command::Show(_) => Err(Stop::NoStep),
-        Command::Broken(_) => Err(Stop::NoStep),
+        SessionCommand::Edit(it) => edit(alloc, session, it, out),
+        SessionCommand::Begin => put_answered(alloc, begin(session), session, out),
+        SessionCommand::Commit => put_answered(alloc, commit(session), session, out),
+        SessionCommand::Abort => put_answered(alloc, abort(session), session, out),
+        SessionCommand::Print(print) => put_print(session, print, out),
+        SessionCommand::Show(_) => Err(Stop::NoStep),
+        SessionCommand::Broken(_) => Err(Stop::NoStep),
     }
 }
 

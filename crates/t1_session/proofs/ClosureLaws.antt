@@ -10,7 +10,7 @@ use Rattle.t1_font.specs.Bodies.{bodies}
 use Rattle.t1_font.specs.SourceChecks.{source_check, source_glyphs}
 use Rattle.t1_font.proofs.GlyphsOfSource.{check-by-glyphs}
 use Rattle.t1_cache.specs.Edited.{is_stale, stale}
-use Rattle.t1_cache.specs.Recorded.{Kept}
+use Rattle.t1_cache.specs.Recorded.{RecordedGlyph}
 use Rattle.t1_cache.proofs.Drawing.{all_draw}
 use Rattle.t1_cache.proofs.Lists.{all-weaken}
 use Rattle.t1_rerun.specs.Renewing.{IsRunWhereStale}
@@ -26,7 +26,7 @@ stale-closure s keys e =
 abbrev staleness : (e : Edition) (s : SourceParts) → source_check s ≡ Ok tt → Staleness e s
 staleness e s checked = record { is_stale = is_stale s e.keys; closure = stale-closure s e.keys checked }
 
-rerun : (count : ℕ) (e : Edition) (s : SourceParts) (kept : List Kept) (k : Kept) → IsRunWhereStale count e.keys s kept k → IsRerun count (is_stale s e.keys) kept k
+rerun : (count : ℕ) (e : Edition) (s : SourceParts) (kept : List RecordedGlyph) (k : RecordedGlyph) → IsRunWhereStale count e.keys s kept k → IsRerun count (is_stale s e.keys) kept k
 rerun count e s kept k h = record { stale = h.stale; fresh = h.fresh }
 
 renews : (e : Edition) (old new : SessionView) → source_check old.state.source ≡ Ok tt → RenewsByTest e old new → Renews e old new

@@ -6,7 +6,7 @@ use Rattle.t1_frac.specs.Words.{words}
 use Rattle.t1_session.specs.Flushing.{WritesAndFlushes}
 use Rattle.t1_session.specs.declared.error.ServeError.{ServeError}
 use Rattle.t1_session.specs.declared.error.ServeError.TheVariants as errors
-use Rattle.t1_commands.specs.declared.command.Command.{Command}
+use Rattle.t1_commands.specs.declared.command.SessionCommand.{SessionCommand}
 use Rattle.t1_text.specs.Lines.{unified}
 use Rattle.t1_commands.specs.Lines.{finished_lines}
 use Rattle.t1_commands.specs.Commands.{OpenCommand, commands_of, takes_body, alone, ends_body, body_command, open_command}
@@ -35,10 +35,10 @@ quiet c h = rw (silent c.after_return, append-nil c.line, finished_lines-unbroke
 Performs-none : (s : SessionState) → Performs s s [] []
 Performs-none s = record { marks = []; on = λ rest more. refl }
 
-Performs-one : (s new : SessionState) (q : Command) (mark : Bool) → new ≡ (answer_to machine s q mark).next → Performs s new (q ∷ []) (answer_text (answer_to machine s q mark).answer)
+Performs-one : (s new : SessionState) (q : SessionCommand) (mark : Bool) → new ≡ (answer_to machine s q mark).next → Performs s new (q ∷ []) (answer_text (answer_to machine s q mark).answer)
 Performs-one s new q mark next = record { marks = mark ∷ []; on = λ rest more. rw next refl }
 
-Performs-both : (a b c : SessionState) (made others : List Command) (t u : List ℕ) → Performs a b made t → Performs b c others u → Performs a c (made ++ others) (t ++ u)
+Performs-both : (a b c : SessionState) (made others : List SessionCommand) (t u : List ℕ) → Performs a b made t → Performs b c others u → Performs a c (made ++ others) (t ++ u)
 Performs-both a b c made others t u p q = record {
   marks = p.marks ++ q.marks;
   on = λ rest more.
@@ -122,7 +122,7 @@ LineGoes-silent c new skip state no_line same = record {
   same = same;
 }
 
-LineGoes-answered : (c new : Conversation) (q : Command) (mark : Bool)
+LineGoes-answered : (c new : Conversation) (q : SessionCommand) (mark : Bool)
     → ((lines : List (List ℕ)) (ended : Bool) → commands_of ended c.opening (c.line ∷ lines) ≡ q ∷ commands_of ended new.opening lines)
     → new.line ≡ [] → new.after_return ≡ c.after_return → new.state ≡ (answer_to machine c.state q mark).next → LineGoes c new (answer_text (answer_to machine c.state q mark).answer)
 LineGoes-answered c new q mark head no_line same next = record {
@@ -213,7 +213,7 @@ module _ {W : Type 0} (contents : W → Option (List ℕ)) where
   Feeds-ended c new before after b (Err (errors.Load fault)) h ends e = absurd e
 
   -- the line of one command
-  pub EndsCommandLine-answered : {T : Type 0} (c new : Conversation) (before after : Tally W) (q : Command) (r : Result T ServeError)
+  pub EndsCommandLine-answered : {T : Type 0} (c new : Conversation) (before after : Tally W) (q : SessionCommand) (r : Result T ServeError)
       → ((lines : List (List ℕ)) (ended : Bool) → commands_of ended c.opening (c.line ∷ lines) ≡ q ∷ commands_of ended new.opening lines)
       → new.line ≡ [] → new.after_return ≡ c.after_return → AnswersCommand contents c.state new.state before after q r → EndsCommandLine contents c new before after r
   EndsCommandLine-answered c new before after q (Ok done) head no_line same p = record {
@@ -239,7 +239,7 @@ module _ {W : Type 0} (contents : W → Option (List ℕ)) where
   EndsLine-command c new before after (Err (errors.Load fault)) e = absurd e
 
   -- the end of the input makes one command
-  pub Ends-answered : {T : Type 0} (c : Conversation) (new : SessionState) (before after : Tally W) (q : Command) (r : Result T ServeError)
+  pub Ends-answered : {T : Type 0} (c : Conversation) (new : SessionState) (before after : Tally W) (q : SessionCommand) (r : Result T ServeError)
       → commands_from c [] true ≡ q ∷ [] → AnswersCommand contents c.state new before after q r → AnswersTheEnd contents c before after r
   Ends-answered c new before after q r one p =
       let text = answer_text (answer_to machine c.state q p.mark).answer in

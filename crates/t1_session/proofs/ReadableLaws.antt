@@ -19,8 +19,8 @@ use Rattle.t1_source.proofs.WellFormedSourceLaws.{source_well_formed}
 use Rattle.t1_font.specs.SourceChecks.{source_check}
 use Rattle.t1_held.specs.Batch.{Draft, EntryEdit, edited_entries}
 use Rattle.t1_held.proofs.HeldLaws.{counts_checked}
-use Rattle.t1_commands.specs.declared.command.Command.{Command}
-use Rattle.t1_commands.specs.declared.command.Command.TheVariants as commands
+use Rattle.t1_commands.specs.declared.command.SessionCommand.{SessionCommand}
+use Rattle.t1_commands.specs.declared.command.SessionCommand.TheVariants as commands
 use Rattle.t1_commands.specs.declared.print.Print.TheVariants as prints
 use Rattle.t1_commands.specs.declared.show.Show.TheVariants as shows
 use Rattle.t1_commands.specs.Answers.{answer_to}
@@ -41,7 +41,7 @@ use Rattle.t1_session.proofs.StateLaws.{asked_scratch, blocks_there, outline_scr
 -- ---- after an answer, marked or not
 
 module _ (P : SessionState → Type 0) (closed : (s : SessionState) → P s → P (without_batch s)) (with-refusal : (s : SessionState) (kept : Option Refused) → P s → P (record s { refused = kept })) where
-  after-want : (s : SessionState) (command : Command) → P s → P (after_want s command)
+  after-want : (s : SessionState) (command : SessionCommand) → P s → P (after_want s command)
   after-want s (commands.Edit edit) h = h
   after-want s (commands.Print print) h = h
   after-want s (commands.Show show) h = h
@@ -50,7 +50,7 @@ module _ (P : SessionState → Type 0) (closed : (s : SessionState) → P s → 
   after-want s commands.Abort h = h
   after-want s (commands.Broken rule) h = h
 
-  after-note : (s : SessionState) (command : Command) (p : Performed SessionState) → P p.next → P (noting_refusals s command p).next
+  after-note : (s : SessionState) (command : SessionCommand) (p : Performed SessionState) → P p.next → P (noting_refusals s command p).next
   after-note s (commands.Edit edit) p h = with-refusal p.next _ h
   after-note s (commands.Print print) p h = h
   after-note s (commands.Show show) p h = h
@@ -59,7 +59,7 @@ module _ (P : SessionState → Type 0) (closed : (s : SessionState) → P s → 
   after-note s commands.Abort p h = with-refusal p.next _ h
   after-note s (commands.Broken rule) p h = h
 
-  after-answer : ((s : SessionState) (command : Command) → P s → P (outcome s command).next) → (s : SessionState) (command : Command) (mark : Bool) → P s → P (answer_to machine s command mark).next
+  after-answer : ((s : SessionState) (command : SessionCommand) → P s → P (outcome s command).next) → (s : SessionState) (command : SessionCommand) (mark : Bool) → P s → P (answer_to machine s command mark).next
   unfolding perform
   after-answer performed s command mark h =
       elim (cases_Bool (mark && may_want_memory s command)) [
@@ -106,7 +106,7 @@ abort-faultless : (b : Option Draft) (s : SessionState) → IsFaultless s → Is
 abort-faultless None s h = h
 abort-faultless (Some d) s h = h
 
-performed-faultless : (s : SessionState) (command : Command) → IsFaultless s → IsFaultless (outcome s command).next
+performed-faultless : (s : SessionState) (command : SessionCommand) → IsFaultless s → IsFaultless (outcome s command).next
 unfolding outcome
 performed-faultless s (commands.Edit edit) h = edit-faultless s.batch s edit h
 performed-faultless s (commands.Print print) h = h
@@ -182,7 +182,7 @@ abort-readable (Some d) s h = alone-readable s h
 noted-readable : (s : SessionState) (kept : Option Refused) → IsReadable s → IsReadable (record s { refused = kept })
 noted-readable s kept h = record { faultless = h.faultless; made = h.made; draft = h.draft }
 
-performed-readable : (s : SessionState) (command : Command) → IsReadable s → IsReadable (outcome s command).next
+performed-readable : (s : SessionState) (command : SessionCommand) → IsReadable s → IsReadable (outcome s command).next
 unfolding outcome
 performed-readable s (commands.Edit edit) h = edit-readable s.batch s edit h.draft h
 performed-readable s (commands.Print print) h = h

@@ -9,7 +9,7 @@ use Rattle.t1_source.specs.declared.edit.Cause.{Cause}
 use Rattle.t1_source.specs.declared.edit.Cause.TheVariants as causes
 use Rattle.t1_source.specs.declared.edit.Edit.{Edit}
 use Rattle.t1_commands.specs.declared.answer.Answer.{Answer}
-use Rattle.t1_commands.specs.declared.command.Command.TheVariants as commands
+use Rattle.t1_commands.specs.declared.command.SessionCommand.TheVariants as commands
 use Rattle.t1_commands.specs.Answers.{Performed}
 use Rattle.t1_session.specs.declared.refused.Refused.{Refused}
 use Rattle.t1_session.specs.declared.refused.Refused.TheVariants as kinds

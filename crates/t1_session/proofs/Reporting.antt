@@ -9,8 +9,8 @@ use Rattle.t1_source.specs.declared.edit.Cause.TheVariants as causes
 use Rattle.t1_source.specs.declared.edit.Rule.{Rule}
 use Rattle.t1_commands.specs.declared.answer.Answer.{Answer}
 use Rattle.t1_commands.specs.declared.answer.Answer.TheVariants.{Broken}
-use Rattle.t1_commands.specs.declared.command.Command.{Command}
-use Rattle.t1_commands.specs.declared.command.Command.TheVariants as commands
+use Rattle.t1_commands.specs.declared.command.SessionCommand.{SessionCommand}
+use Rattle.t1_commands.specs.declared.command.SessionCommand.TheVariants as commands
 use Rattle.t1_commands.specs.declared.print.Print.{Print}
 use Rattle.t1_commands.specs.declared.show.Show.{Show}
 use Rattle.t1_commands.specs.AnswerTexts.{answer_text}
@@ -20,7 +20,7 @@ use Rattle.t1_session.specs.Machine.{after_want, may_want_memory, outcome, perfo
 use Rattle.t1_session.specs.State.{SessionState}
 
 module _ {W : Type 0} (contents : W → Option (List ℕ)) (old new : SessionState) (before after : Tally W) where
-  sent : {E : Type 0} (command : Command) (r : Result E OutError) (answer : Answer) → (perform old command).answer ≡ answer → new ≡ (perform old command).next
+  sent : {E : Type 0} (command : SessionCommand) (r : Result E OutError) (answer : Answer) → (perform old command).answer ≡ answer → new ≡ (perform old command).next
       → SendsText contents before after (answer_text answer) r → IsPerformed contents old new before after command r
   sent command (Ok done) answer is next h = (subst (λ (a : Answer). WritesAll contents before after (answer_text a)) (sym is) h, next)
   sent command (Err out.Write) answer is next h = (subst (λ (a : Answer). WritesFront contents before after (answer_text a)) (sym is) h, next)
@@ -31,7 +31,7 @@ same-text : (text whole : List ℕ) → ◌≡◌ {A = Result (List ℕ) Fault} 
 same-text text whole h = cc
 
 -- a command that changes nothing, and may want memory, was answered
-module _ {W E : Type 0} (contents : W → Option (List ℕ)) (s : SessionState) (before after : Tally W) (command : Command) (answer : Answer) (r : Result E OutError)
+module _ {W E : Type 0} (contents : W → Option (List ℕ)) (s : SessionState) (before after : Tally W) (command : SessionCommand) (answer : Answer) (r : Result E OutError)
     (performed : perform s command ≡ stays s answer) (may_want : may_want_memory s command ≡ true) (want : after_want s command ≡ s) where
   pub shown_performed : Prints contents before after (Ok (answer_text answer)) r → IsPerformed contents s s before after command r
   shown_performed h = by r h

@@ -20,7 +20,7 @@ use Rattle.t1_font.specs.RunCounts.{counted}
 use Rattle.t1_font.specs.SourceChecks.{source_check}
 use Rattle.t1_cache.specs.Edited.{stale}
 use Rattle.t1_cache.specs.EditKeys.{named}
-use Rattle.t1_cache.specs.Recorded.{Kept}
+use Rattle.t1_cache.specs.Recorded.{RecordedGlyph}
 use Rattle.t1_rerun.specs.Opened.{runs_where}
 use Rattle.t1_held.specs.declared.held.Held.{Held}
 use Rattle.t1_held.specs.Held.{IsHeld}
@@ -44,7 +44,7 @@ runs-most : (check : Result (Unit {0}) Fault) (names : List (List ℕ)) → runs
 runs-most (Ok checked) names = omega arith
 runs-most (Err fault) names = omega arith
 
-pub edits_spend : (T : Type 0) (v new : SessionView) (old made : SourceParts) (keys : List Key) (count : ℕ) (kept : List Kept) (refusal : Refusal)
+pub edits_spend : (T : Type 0) (v new : SessionView) (old made : SourceParts) (keys : List Key) (count : ℕ) (kept : List RecordedGlyph) (refusal : Refusal)
     → v.state.source ≡ old → v.kept ≡ kept → v.runs ≡ count → new.kept ≡ kept
     → Counts {T = T} (runs_where (file_check made) (stale old keys made)) count new.runs (Err refusal)
     → SpendsAtMost (length (stale v.state.source keys made)) v new
@@ -63,7 +63,7 @@ edits_spend T v new old made keys count kept (refusals.Fault fault) source was w
 }
 
 -- their runs were made, and then memory ran out
-pub edits_unmade : (v new : SessionView) (old made : SourceParts) (keys : List Key) (count : ℕ) (kept : List Kept)
+pub edits_unmade : (v new : SessionView) (old made : SourceParts) (keys : List Key) (count : ℕ) (kept : List RecordedGlyph)
     → v.state.source ≡ old → v.kept ≡ kept → v.runs ≡ count → new.kept ≡ kept → source_check made ≡ Ok tt
     → new.runs ≡ counted count (runs_where (file_check made) (stale old keys made))
     → SpendsAtMost (length (stale v.state.source keys made)) v new
@@ -72,13 +72,13 @@ edits_unmade v new old made keys count kept source was were same checked runs =
 
 -- one edit
 
-pub edit_spends : (T : Type 0) (v new : SessionView) (old made : SourceParts) (edit : Edit) (count : ℕ) (kept : List Kept) (refusal : Refusal)
+pub edit_spends : (T : Type 0) (v new : SessionView) (old made : SourceParts) (edit : Edit) (count : ℕ) (kept : List RecordedGlyph) (refusal : Refusal)
     → v.state.source ≡ old → v.kept ≡ kept → v.runs ≡ count → new.kept ≡ kept
     → Counts {T = T} (renewing_runs edit old made) count new.runs (Err refusal)
     → SpendsAtMost (length (stale v.state.source (named edit) made)) v new
 edit_spends T v new old made edit = edits_spend T v new old made (named edit)
 
-pub edit_unmade : (v new : SessionView) (old made : SourceParts) (edit : Edit) (count : ℕ) (kept : List Kept)
+pub edit_unmade : (v new : SessionView) (old made : SourceParts) (edit : Edit) (count : ℕ) (kept : List RecordedGlyph)
     → v.state.source ≡ old → v.kept ≡ kept → v.runs ≡ count → new.kept ≡ kept → source_check made ≡ Ok tt
     → new.runs ≡ counted count (renewing_runs edit old made)
     → SpendsAtMost (length (stale v.state.source (named edit) made)) v new

@@ -9,7 +9,7 @@ use Rattle.t1_code.specs.declared.parts.OutError.TheVariants as out
 use Rattle.t1_text.specs.Lines.{unified, begins_with, is_line_end}
 use Rattle.t1_session.specs.declared.error.ServeError.{ServeError}
 use Rattle.t1_session.specs.declared.error.ServeError.TheVariants as errors
-use Rattle.t1_commands.specs.declared.command.Command.{Command}
+use Rattle.t1_commands.specs.declared.command.SessionCommand.{SessionCommand}
 use Rattle.t1_commands.specs.Lines.{finished_lines}
 use Rattle.t1_commands.specs.Commands.{OpenCommand, commands_of, ends_body}
 use Rattle.t1_commands.specs.AnswerTexts.{answer_text}
@@ -40,18 +40,18 @@ abbrev pub is_unbroken : List ℕ → Bool
 is_unbroken text = list_all (λ c. not (c == line_feed)) text
 
 -- word: the commands that the rest of the input finishes
-unfoldable pub commands_from : Conversation → List ℕ → Bool → List Command
+unfoldable pub commands_from : Conversation → List ℕ → Bool → List SessionCommand
 commands_from c rest ended = commands_of ended c.opening (finished_lines ended (c.line ++ unified (input_after c.after_return rest)))
 
 -- word: these commands bring a session from one state to another with this text, whatever commands come after
-pub record Performs (old new : SessionState) (made : List Command) (text : List ℕ) : Type 0 where
+pub record Performs (old new : SessionState) (made : List SessionCommand) (text : List ℕ) : Type 0 where
   pub marks : List Bool
-  pub on : (rest : List Command) (more : List Bool) → answers machine old (made ++ rest) (marks ++ more) ≡ text ++ answers machine new rest more
+  pub on : (rest : List SessionCommand) (more : List Bool) → answers machine old (made ++ rest) (marks ++ more) ≡ text ++ answers machine new rest more
 
 -- word: this input brings a conversation from one point to another, by these commands with this text, whatever comes
 -- after
 pub record Goes (old new : Conversation) (input text : List ℕ) : Type 0 where
-  pub made : List Command
+  pub made : List SessionCommand
   pub spells : (rest : List ℕ) (ended : Bool) → commands_from old (input ++ rest) ended ≡ made ++ commands_from new rest ended
   pub performs : Performs old.state new.state made text
   pub returned : new.after_return ≡ ends_in_return old.after_return input
@@ -70,7 +70,7 @@ Sends contents old new text (Err (errors.Load fault)) = ⊥
 
 -- word: a command was performed, and its answer went out, or a failed write cut it short; or it met want of memory,
 -- and nothing was written
-abbrev pub IsPerformed : {W T : Type 0} → (W → Option (List ℕ)) → SessionState → SessionState → Tally W → Tally W → Command → Result T OutError → Type 0
+abbrev pub IsPerformed : {W T : Type 0} → (W → Option (List ℕ)) → SessionState → SessionState → Tally W → Tally W → SessionCommand → Result T OutError → Type 0
 IsPerformed contents old new before after command (Ok done) =
     WritesAll contents before after (answer_text (machine.perform old command).answer) × (new ≡ (machine.perform old command).next)
 IsPerformed contents old new before after command (Err out.Write) =
@@ -80,14 +80,14 @@ IsPerformed contents old new before after command (Err out.Memory) =
     (after ≡ before) × (may_want_memory old command ≡ true) × (new ≡ after_want old command)
 
 -- word: the answer to one command, marked or not
-pub record AnswersCommand {W T : Type 0} (contents : W → Option (List ℕ)) (old new : SessionState) (before after : Tally W) (command : Command) (result : Result T ServeError) : Type 0 where
+pub record AnswersCommand {W T : Type 0} (contents : W → Option (List ℕ)) (old new : SessionState) (before after : Tally W) (command : SessionCommand) (result : Result T ServeError) : Type 0 where
   pub mark : Bool
   pub sends : Sends contents before after (answer_text (answer_to machine old command mark).answer) result
   pub next : new ≡ (answer_to machine old command mark).next
 
 -- word: the end of a line brings a conversation from one point to another, whatever lines come after
 pub record LineGoes (old new : Conversation) (text : List ℕ) : Type 0 where
-  pub made : List Command
+  pub made : List SessionCommand
   pub spells : (lines : List (List ℕ)) (ended : Bool) → commands_of ended old.opening (old.line ∷ lines) ≡ made ++ commands_of ended new.opening lines
   pub performs : Performs old.state new.state made text
   pub no_line : new.line ≡ []
@@ -137,7 +137,7 @@ pub record Answered {W : Type 0} (contents : W → Option (List ℕ)) (old new :
 -- word: a byte that makes what is kept of the input longer: one of a line, or the end of a line that goes into a body,
 -- so that a command would be open if the input ended there
 abbrev pub Grows : Conversation → ℕ → Type 0
-Grows c b = (is_line_end b ≡ false) ⊎ ((ends_line c.after_return b ≡ true) × (command : Command) × (commands_from c (b ∷ []) true ≡ command ∷ []))
+Grows c b = (is_line_end b ≡ false) ⊎ ((ends_line c.after_return b ≡ true) × (command : SessionCommand) × (commands_from c (b ∷ []) true ≡ command ∷ []))
 
 -- word: memory was wanted for a byte of the piece that makes longer what is kept, and finishes no command; those before
 -- it were answered

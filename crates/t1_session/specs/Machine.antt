@@ -19,8 +19,8 @@ use Rattle.t1_commands.specs.declared.show.Show.{Show}
 use Rattle.t1_commands.specs.declared.show.Show.TheVariants as shows
 use Rattle.t1_commands.specs.declared.answer.Answer.{Answer}
 use Rattle.t1_commands.specs.declared.answer.Answer.TheVariants.{Accepted, Broken, Faulty, Data}
-use Rattle.t1_commands.specs.declared.command.Command.{Command}
-use Rattle.t1_commands.specs.declared.command.Command.TheVariants as commands
+use Rattle.t1_commands.specs.declared.command.SessionCommand.{SessionCommand}
+use Rattle.t1_commands.specs.declared.command.SessionCommand.TheVariants as commands
 use Rattle.t1_commands.specs.Blocks.{block_size}
 use Rattle.t1_commands.specs.Answers.{Performed, Machine}
 use Rattle.t1_session.specs.FromScratch.{blocks_from_scratch, encoding_from_scratch, glyph_from_scratch, metrics_from_scratch, metrics_line_from_scratch, outline_from_scratch, pfa_from_scratch, pfb_from_scratch, subr_from_scratch, uses_from_scratch}
@@ -134,7 +134,7 @@ shown_answer s shows.Refusal = Data (refused_text s.source s.pairs s.refused)
 -- ---- all commands
 
 -- profile, session commands: what a command is answered, and the state after it, with what was refused before
-unfoldable pub outcome : SessionState → Command → Performed SessionState
+unfoldable pub outcome : SessionState → SessionCommand → Performed SessionState
 outcome s (commands.Edit edit) = edit_in s.batch s edit
 outcome s (commands.Print print) = stays s (printed s print)
 outcome s (commands.Show show) = stays s (shown_answer s show)
@@ -160,7 +160,7 @@ abbrev pub refused_batch : Option Draft → Option Refused
 refused_batch batch = option_map (λ draft. kinds.Batch draft.source) batch
 
 -- profile, refusals: an edit, a `begin`, a `commit` and an `abort` change what is kept of a refusal, and no other command does
-abbrev pub noting_refusals : SessionState → Command → Performed SessionState → Performed SessionState
+abbrev pub noting_refusals : SessionState → SessionCommand → Performed SessionState → Performed SessionState
 noting_refusals s (commands.Edit edit) p = keeping (Some (kinds.Edit edit)) p
 noting_refusals s commands.Begin p = keeping None p
 noting_refusals s commands.Commit p = keeping (refused_batch s.batch) p
@@ -168,11 +168,11 @@ noting_refusals s commands.Abort p = keeping None p
 noting_refusals s command p = p
 
 -- profile, session commands: what a command is answered, and the state after it
-unfoldable pub perform : SessionState → Command → Performed SessionState
+unfoldable pub perform : SessionState → SessionCommand → Performed SessionState
 perform s command = noting_refusals s command (outcome s command)
 
 -- profile, answers: which commands may meet want of memory: edits, prints and queries, a `begin` outside a batch, a `commit` in one
-abbrev pub may_want_memory : SessionState → Command → Bool
+abbrev pub may_want_memory : SessionState → SessionCommand → Bool
 may_want_memory s (commands.Edit edit) = true
 may_want_memory s (commands.Print print) = true
 may_want_memory s (commands.Show show) = true
@@ -182,7 +182,7 @@ may_want_memory s commands.Abort = false
 may_want_memory s (commands.Broken rule) = false
 
 -- profile, answers: want of memory leaves the state as it was, but for the batch of a `commit`, which is closed
-abbrev pub after_want : SessionState → Command → SessionState
+abbrev pub after_want : SessionState → SessionCommand → SessionState
 after_want s commands.Commit = without_batch s
 after_want s _ = s
 

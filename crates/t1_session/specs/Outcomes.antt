@@ -10,7 +10,7 @@ use Rattle.t1_source.specs.declared.edit.Cause.TheVariants as causes
 use Rattle.t1_code.specs.declared.parts.OutError.{OutError}
 use Rattle.t1_code.specs.declared.parts.OutError.TheVariants as out
 use Rattle.t1_commands.specs.declared.answer.Answer.TheVariants.{Accepted, Broken, Faulty}
-use Rattle.t1_commands.specs.declared.command.Command.{Command}
+use Rattle.t1_commands.specs.declared.command.SessionCommand.{SessionCommand}
 use Rattle.t1_commands.specs.Answers.{Performed}
 use Rattle.t1_session.specs.declared.refused.Refused.TheVariants as kinds
 use Rattle.t1_session.specs.Machine.{keeping, outcome, perform, may_want_memory, after_want}
@@ -31,15 +31,15 @@ TookNoted old p may_want want (Err (causes.Fault fault)) new = (p.answer ≡ Fau
 TookNoted old p may_want want (Err causes.Memory) new = (may_want ≡ true) × (new ≡ want)
 
 -- profile: a command was performed
-abbrev pub Takes : {T : Type 0} → SessionState → Command → Result T Cause → SessionState → Type 0
+abbrev pub Takes : {T : Type 0} → SessionState → SessionCommand → Result T Cause → SessionState → Type 0
 Takes old c result new = TookNoted old (perform old c) (may_want_memory old c) (after_want old c) result new
 
 -- profile: the same, of a call that keeps nothing of an edit whose source has a fault
-abbrev pub TakesOrDrops : {T : Type 0} → SessionState → Command → Result T Cause → SessionState → Type 0
+abbrev pub TakesOrDrops : {T : Type 0} → SessionState → SessionCommand → Result T Cause → SessionState → Type 0
 TakesOrDrops old c result new = TookNoted old (keeping None (outcome old c)) (may_want_memory old c) (after_want old c) result new
 
 -- profile: the same, of a call that hands what it took back with each refusal
-abbrev pub TakesOrReturns : {T E : Type 0} → SessionState → Command → E → Result T (Cause × E) → SessionState → Type 0
+abbrev pub TakesOrReturns : {T E : Type 0} → SessionState → SessionCommand → E → Result T (Cause × E) → SessionState → Type 0
 TakesOrReturns {T} old c given (Ok done) new = TakesOrDrops {T = T} old c (Ok done) new
 TakesOrReturns {T} old c given (Err back) new = TakesOrDrops {T = T} old c (Err back.0) new × (back.1 ≡ given)
 

@@ -10,7 +10,7 @@ use Rattle.t1_font.specs.SourceChecks.{source_check}
 use Rattle.t1_held.specs.Batch.{Draft}
 use Rattle.t1_commands.specs.declared.answer.Answer.{Answer}
 use Rattle.t1_commands.specs.declared.answer.Answer.TheVariants as answers
-use Rattle.t1_commands.specs.declared.command.Command.{Command}
+use Rattle.t1_commands.specs.declared.command.SessionCommand.{SessionCommand}
 use Rattle.t1_commands.specs.declared.print.Print.{Print}
 use Rattle.t1_commands.specs.declared.show.Show.{Show}
 use Rattle.t1_commands.specs.Answers.{answer_to}
@@ -27,7 +27,7 @@ OpensFaultless = (source : SourceParts) (kerning : List Pair) (s : SessionState)
 
 -- profile: a state without a fault stays so through every command, also one for which memory ran out
 abbrev pub KeepsFaultless : Type 0
-KeepsFaultless = (s : SessionState) (command : Command) (mark : Bool) → IsFaultless s → IsFaultless (answer_to machine s command mark).next
+KeepsFaultless = (s : SessionState) (command : SessionCommand) (mark : Bool) → IsFaultless s → IsFaultless (answer_to machine s command mark).next
 
 -- profile: a source and pairs are as reading and edits make them
 abbrev pub AreMade : SourceParts → List Pair → Type 0
@@ -50,7 +50,7 @@ OpensReadable = (source kerning : List ℕ) (s : SessionState) → scratch sourc
 
 -- profile: a readable state stays so through every command, also one for which memory ran out
 abbrev pub KeepsReadable : Type 0
-KeepsReadable = (s : SessionState) (command : Command) (mark : Bool) → IsReadable s → IsReadable (answer_to machine s command mark).next
+KeepsReadable = (s : SessionState) (command : SessionCommand) (mark : Bool) → IsReadable s → IsReadable (answer_to machine s command mark).next
 
 -- profile: what a readable state prints reads back as it
 abbrev pub ReadsBack : Type 0

@@ -13,10 +13,10 @@ use Rattle.t1_font.specs.Glyphs.{glyph_names}
 use Rattle.t1_font.specs.RunCounts.{counted}
 use Rattle.t1_outline.specs.Counting.{outline_runs}
 use Rattle.t1_cache.specs.EditKeys.{named}
-use Rattle.t1_cache.specs.Recorded.{IsOneOf, Kept}
+use Rattle.t1_cache.specs.Recorded.{IsOneOf, RecordedGlyph}
 use Rattle.t1_rerun.specs.RunNumbers.{IsRunAfter}
-use Rattle.t1_commands.specs.declared.command.Command.{Command}
-use Rattle.t1_commands.specs.declared.command.Command.TheVariants as commands
+use Rattle.t1_commands.specs.declared.command.SessionCommand.{SessionCommand}
+use Rattle.t1_commands.specs.declared.command.SessionCommand.TheVariants as commands
 use Rattle.t1_held.specs.Batch.{Draft, keys}
 use Rattle.t1_session.specs.State.{SessionView, SessionState}
 
@@ -26,14 +26,14 @@ pub record Edition : Type 0 where
   pub source : SourceParts
 
 -- profile, edits, batches: what a command edits, by the batch that is open, where one is
-abbrev pub edition_in : Option Draft → SessionState → Command → Option Edition
+abbrev pub edition_in : Option Draft → SessionState → SessionCommand → Option Edition
 edition_in None s (commands.Edit edit) = option_map (λ made. record { keys = named edit; source = made.0 }) (result_ok (edited s.source s.pairs edit))
 edition_in (Some d) s commands.Commit = Some (record { keys = keys d.entries; source = d.source })
 edition_in batch s c = None
 
 -- profile, edits, batches: an edit outside a batch that breaks no edit rule edits the session's source, and so does the commit
 -- of a batch, by all its edits; it is judged by its runs
-abbrev pub edition : SessionState → Command → Option Edition
+abbrev pub edition : SessionState → SessionCommand → Option Edition
 edition s c = edition_in s.batch s c
 
 -- profile, edits: which glyphs are stale: those that the edits name, those whose own run in the source before them entered a
@@ -47,7 +47,7 @@ abbrev pub stale_count : Edition → (List ℕ → Bool) → ℕ
 stale_count e is_stale = length (filter is_stale (glyph_names e.source.items))
 
 -- profile: a stale glyph has a run after this count, and each other glyph what was kept of it, the number of its run too
-pub record IsRerun (count : ℕ) (is_stale : List ℕ → Bool) (kept : List Kept) (k : Kept) : Type 0 where
+pub record IsRerun (count : ℕ) (is_stale : List ℕ → Bool) (kept : List RecordedGlyph) (k : RecordedGlyph) : Type 0 where
   pub stale : is_stale k.name ≡ true → IsRunAfter count k
   pub fresh : is_stale k.name ≡ false → IsOneOf kept k
 

@@ -7,7 +7,7 @@ use Rattle.t1_session.specs.declared.error.ServeError.{ServeError}
 use Rattle.t1_session.specs.declared.error.ServeError.TheVariants as errors
 use Rattle.t1_commands.specs.Answers.{session_answers}
 use Rattle.t1_commands.specs.Commands.{input_commands}
-use Rattle.t1_commands.specs.declared.command.Command.{Command}
+use Rattle.t1_commands.specs.declared.command.SessionCommand.{SessionCommand}
 use Rattle.t1_text.specs.Lines.{is_line_end}
 use Rattle.t1_session.specs.Flushing.{WritesAndFlushes}
 use Rattle.t1_session.specs.LineEnds.{ends_line, ends_in_return}
@@ -25,7 +25,7 @@ streams reader writer = record { reader = reader; writer = writer }
 
 -- profile: a body is open after this input: if it ended there, there would be a command more
 pub record IsInBody (input : List ℕ) : Type 0 where
-  pub left : Command
+  pub left : SessionCommand
   pub more : input_commands true input ≡ input_commands false input ++ left ∷ []
 
 -- profile: a byte that makes longer what a session keeps of its input: one of a line, or the end of a line of a body

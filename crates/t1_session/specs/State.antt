@@ -2,7 +2,7 @@
 use Rattle.std.specs.Prelude.{ℕ, List, Option}
 use Rattle.t1_parts.specs.SourceParts.{SourceParts}
 use Rattle.t1_pairs.specs.declared.pairs.Pair.{Pair}
-use Rattle.t1_cache.specs.Recorded.{Kept}
+use Rattle.t1_cache.specs.Recorded.{RecordedGlyph}
 use Rattle.t1_held.specs.Batch.{Draft}
 use Rattle.t1_session.specs.declared.refused.Refused.{Refused}
 use Rattle.t1_session.specs.Users.{UserTable}
@@ -19,6 +19,6 @@ pub record SessionState : Type 0 where
 -- Subr and each glyph, and the count of runs
 pub record SessionView : Type 0 where
   pub state : SessionState
-  pub kept : List Kept
+  pub kept : List RecordedGlyph
   pub users : UserTable
   pub runs : ℕ

@@ -6,7 +6,7 @@ use Rattle.t1_parts.specs.SourceParts.{SourceParts}
 use Rattle.t1_source.specs.declared.edit.Cause.{Cause}
 use Rattle.t1_source.specs.declared.edit.Cause.TheVariants as causes
 use Rattle.t1_commands.specs.declared.answer.Answer.TheVariants.{Accepted, Broken, Faulty}
-use Rattle.t1_commands.specs.declared.command.Command.{Command}
+use Rattle.t1_commands.specs.declared.command.SessionCommand.{SessionCommand}
 use Rattle.t1_commands.specs.Answers.{Performed}
 use Rattle.t1_session.specs.declared.refused.Refused.{Refused}
 use Rattle.t1_session.specs.declared.refused.Refused.TheVariants as kinds
@@ -22,7 +22,7 @@ Took old p may_want want (Err (causes.Fault fault)) new = (p.answer ≡ Faulty f
 Took old p may_want want (Err causes.Memory) new = (may_want ≡ true) × (new ≡ want)
 
 -- word: the same, of a command
-abbrev pub TakesUnnoted : {T : Type 0} → SessionState → Command → Result T Cause → SessionState → Type 0
+abbrev pub TakesUnnoted : {T : Type 0} → SessionState → SessionCommand → Result T Cause → SessionState → Type 0
 TakesUnnoted old c result new = Took old (outcome old c) (may_want_memory old c) (after_want old c) result new
 
 -- word: the session with this kept of a refusal

@@ -9,7 +9,7 @@ use crate::performer::Performer;
 use std::alloc::AllocError;
 use std::io::Write;
 use t1_code::{Counted, OutError};
-use t1_commands::{Answer, Command, put_answer};
+use t1_commands::{Answer, SessionCommand, put_answer};
 
 /// Writes an answer, and passes it on.
 fn send<W: Write>(writer: &mut Counted<W>, answer: &Answer) -> Result<(), ServeError>
@@ -23,10 +23,10 @@ fn send<W: Write>(writer: &mut Counted<W>, answer: &Answer) -> Result<(), ServeE
 /// Performs the command that was made, where there was the memory for it, and passes its answer on.
 fn try_answer<W: Write>(
     session: &mut Performer,
-    made: Result<Command, AllocError>,
+    made: Result<SessionCommand, AllocError>,
     writer: &mut Counted<W>,
 ) -> Result<(), OutError>
-    ensures performed { (wanted : Command)
+    ensures performed { (wanted : SessionCommand)
         → Makes made wanted
         → IsPerformed W.contents session.old session.new writer.old writer.new wanted result }
     ensures flushed { IfOk result (λ done. writer.new.is_flushed ≡ true) }
@@ -39,10 +39,10 @@ fn try_answer<W: Write>(
 /// Performs a command, and answers it, also where memory ran out.
 pub fn answer_command<W: Write>(
     session: &mut Performer,
-    made: Result<Command, AllocError>,
+    made: Result<SessionCommand, AllocError>,
     writer: &mut Counted<W>,
 ) -> Result<(), ServeError>
-    ensures { (wanted : Command)
+    ensures { (wanted : SessionCommand)
         → Makes made wanted
         → AnswersCommand W.contents session.old session.new writer.old writer.new wanted result }
 {

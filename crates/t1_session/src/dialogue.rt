@@ -15,7 +15,7 @@ use t1_frac::Bytes;
 
 /// A command whose body is being read: the line that opened it, and its body so far.
 #[derive(Drop)]
-struct Opened {
+struct CommandBegun {
     heading: Vec<u8>,
     body: Vec<u8>,
 }
@@ -25,7 +25,7 @@ struct Opened {
 #[derive(Drop)]
 pub struct Dialogue<'a> {
     session: Performer<'a>,
-    opening: Option<Opened>,
+    opening: Option<CommandBegun>,
     line: Vec<u8>,
     after_return: bool,
     ghost unbroken: { is_unbroken line.items ≡ true },
@@ -121,7 +121,7 @@ impl<'a> Dialogue<'a> {
     {
         let line = mem::replace(&mut self.line, Vec::new(alloc));
         if takes_body(&line) {
-            self.opening = Some(Opened {
+            self.opening = Some(CommandBegun {
                 heading: line,
                 body: Vec::new(alloc),
             });
@@ -138,7 +138,7 @@ impl<'a> Dialogue<'a> {
     fn end_body_line<W: Write>(
         &mut self,
         alloc: Global,
-        opening: Opened,
+        opening: CommandBegun,
         writer: &mut Counted<W>,
     ) -> Result<(), ServeError>
         requires { self.old.opening ≡ None }
@@ -146,7 +146,7 @@ impl<'a> Dialogue<'a> {
             (record (conversation_of self.old) { opening = Some (opening_seen opening) })
             (conversation_of self.new) writer.old writer.new result }
     {
-        let Opened { heading, mut body } = opening;
+        let CommandBegun { heading, mut body } = opening;
         if ends_body(&self.line) {
             self.line.clear();
             let made = body_command(alloc, &heading, Bytes::new(body));
@@ -155,7 +155,7 @@ impl<'a> Dialogue<'a> {
         body.extend_from_slice(&self.line)?;
         body.push(b'\n')?;
         self.line.clear();
-        self.opening = Some(Opened { heading, body });
+        self.opening = Some(CommandBegun { heading, body });
         Ok(())
     }
 
@@ -198,7 +198,7 @@ impl<'a> Dialogue<'a> {
     fn finish_body<W: Write>(
         &mut self,
         alloc: Global,
-        opening: Opened,
+        opening: CommandBegun,
         writer: &mut Counted<W>,
     ) -> Result<(), ServeError>
         requires { self.old.opening ≡ None }
@@ -206,7 +206,7 @@ impl<'a> Dialogue<'a> {
             (record (conversation_of self.old) { opening = Some (opening_seen opening) })
             writer.old writer.new result }
     {
-        let Opened { heading, body } = opening;
+        let CommandBegun { heading, body } = opening;
         if ends_body(&self.line) {
             let made = body_command(alloc, &heading, Bytes::new(body));
             return answer_command(&mut self.session, made, writer);

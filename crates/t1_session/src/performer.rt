@@ -23,7 +23,7 @@ ghost use Rattle.t1_session.specs.Conversation.{IsPerformed};
 
 use std::io::Write;
 use t1_code::{Counted, OutError};
-use t1_commands::{Command, answer_of, put_answer};
+use t1_commands::{SessionCommand, answer_of, put_answer};
 use t1_source::Cause;
 
 /// Writes what is answered to a command that was performed, or refused; nothing where memory ran
@@ -47,19 +47,19 @@ impl<'a> Performer<'a> {
     /// session is as before, but for the batch of a commit.
     pub fn perform<W: Write>(
         &mut self,
-        command: Command,
+        command: SessionCommand,
         out: &mut Counted<W>,
     ) -> Result<(), OutError>
         ensures { IsPerformed W.contents self.old self.new out.old out.new command result }
     {
         match command {
-            Command::Edit(edit) => report(self.session.apply(edit), out),
-            Command::Begin => report(self.session.begin(), out),
-            Command::Commit => report(self.session.commit(), out),
-            Command::Abort => report(self.session.abort(), out),
-            Command::Print(print) => self.session.put_print(print, out),
-            Command::Show(show) => self.session.put_show(show, out),
-            Command::Broken(rule) => report(Err(Cause::Rule(rule)), out),
+            SessionCommand::Edit(edit) => report(self.session.apply(edit), out),
+            SessionCommand::Begin => report(self.session.begin(), out),
+            SessionCommand::Commit => report(self.session.commit(), out),
+            SessionCommand::Abort => report(self.session.abort(), out),
+            SessionCommand::Print(print) => self.session.put_print(print, out),
+            SessionCommand::Show(show) => self.session.put_show(show, out),
+            SessionCommand::Broken(rule) => report(Err(Cause::Rule(rule)), out),
         }
     }
 }

@@ -57,7 +57,7 @@ ghost use Rattle.t1_font.specs.SourceChecks.{measured_source, source_check};
 ghost use Rattle.t1_cache.specs.EditKeys.{named};
 ghost use Rattle.t1_held.specs.Batch.{entry_edit, keys};
 ghost use Rattle.t1_held.specs.Drafting.{IsEditedBy};
-ghost use Rattle.t1_commands.specs.declared.command.Command.TheVariants as commands;
+ghost use Rattle.t1_commands.specs.declared.command.SessionCommand.TheVariants as commands;
 ghost use Rattle.t1_commands.specs.declared.print.Print.TheVariants as prints;
 ghost use Rattle.t1_session.specs.FromScratch.{blocks_from_scratch, encoding_from_scratch};
 ghost use Rattle.t1_session.specs.FromScratch.{glyph_from_scratch, metrics_from_scratch};

@@ -16,7 +16,7 @@ use Rattle.t1_parts.specs.Encoding.{clear_check}
 use Rattle.t1_parts.specs.Sections.{is_glyphs_line}
 use Rattle.t1_parts.specs.Entries.{NumberedItem, has_numbered}
 use Rattle.t1_parts.specs.Private.{items_of, private_items}
-use Rattle.t1_parts.specs.Parts.{Parts, parts_of, is_eexec, is_closefile, is_zeros, holds, tail_of}
+use Rattle.t1_parts.specs.Parts.{ThreeParts, parts_of, is_eexec, is_closefile, is_zeros, holds, tail_of}
 use Rattle.t1_parts.specs.LenIV.{said_lead, said_with_line, lead_check, lead_of_token}
 use Rattle.t1_parts.specs.Counts.{subrs_needed, glyphs_needed, raised_item, raised}
 use Rattle.t1_parts.specs.Reading.{unnumbered, whole_check, reads_lines, reads}
@@ -92,14 +92,14 @@ taken_ends : (test : List ℕ → Bool) (ls : List (List ℕ)) (at : ℕ) → po
 taken_ends test ls at e = let p = place_given test ls at e in rw (← p.1) (take_ends test ls p.0)
 
 -- the parts of lines
-record PartsAreWellFormed (p : Parts) : Type 0 where
+record PartsAreWellFormed (p : ThreeParts) : Type 0 where
   clear : list_all is_line p.clear ≡ true
   private : list_all is_line p.private ≡ true
   tail : list_all is_line p.tail ≡ true
   eexec : Ends is_eexec p.clear
   closefile : Ends is_closefile p.private
 
-parts_well_formed : (ls : List (List ℕ)) (p : Parts) → list_all is_line ls ≡ true → parts_of ls ≡ Ok p → PartsAreWellFormed p
+parts_well_formed : (ls : List (List ℕ)) (p : ThreeParts) → list_all is_line ls ≡ true → parts_of ls ≡ Ok p → PartsAreWellFormed p
 unfolding parts_of
 parts_well_formed ls p h e =
     let first = bind_ok (ok_or (position is_eexec ls) (fault_at Nowhere F1)) (λ eexec. ok_or (position is_closefile (drop (eexec + 1) ls)) (fault_at Nowhere F2) >>= λ closefile. Ok (record {
@@ -254,7 +254,7 @@ tail_well_formed ls h =
     ]
 
 -- a source that is made of parts without faults
-pub made_well_formed : (ls : List (List ℕ)) (p : Parts) (ns : List NumberedItem) (clear : List (List ℕ)) (items : List Item) (tail : List (List ℕ)) → parts_of ls ≡ Ok p → private_items (length p.clear + 1) p.private ≡ Ok ns → whole_check ns ≡ Ok tt → clear_check p.clear ≡ Ok tt → list_all is_line ls ≡ true
+pub made_well_formed : (ls : List (List ℕ)) (p : ThreeParts) (ns : List NumberedItem) (clear : List (List ℕ)) (items : List Item) (tail : List (List ℕ)) → parts_of ls ≡ Ok p → private_items (length p.clear + 1) p.private ≡ Ok ns → whole_check ns ≡ Ok tt → clear_check p.clear ≡ Ok tt → list_all is_line ls ≡ true
     → clear ≡ p.clear → items ≡ raised (unnumbered ns) → tail ≡ tail_of p.tail → IsWellFormed (record { clear = clear; items = items; tail = tail })
 made_well_formed ls p ns clear items tail cut read whole_ok clear_ok h is_clear is_items is_tail =
     let parts = parts_well_formed ls p h cut in
@@ -269,7 +269,7 @@ made_well_formed ls p ns clear items tail cut read whole_ok clear_ok h is_clear 
 
 -- what a source that was read is made of
 pub record TakenApart (ls : List (List ℕ)) (s : SourceParts) : Type 0 where
-  pub parts : Parts
+  pub parts : ThreeParts
   pub items : List NumberedItem
   pub cut : parts_of ls ≡ Ok parts
   pub encoded : clear_check parts.clear ≡ Ok tt

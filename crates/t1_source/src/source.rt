@@ -5,8 +5,8 @@ use std::alloc::{AllocError, Global};
 use std::marker::Model;
 use t1_frac::{Bytes, Code, Fault, Refusal};
 use t1_parts::{
-    Gathered, Item, Items, Parts, check_clear, check_lead, has_standard, header_of, operator_of,
-    parts_of, private_items, push_items, push_lines, raise, tail_of,
+    Gathered, Item, Items, PartBytes, check_clear, check_lead, has_standard, header_of,
+    operator_of, parts_of, private_items, push_items, push_lines, raise, tail_of,
 };
 use t1_text::{copied_bytes, copied_lines, same};
 
@@ -65,7 +65,7 @@ fn check_whole(items: &Gathered) -> Result<(), Fault>
 }
 
 /// The lines of the clear part, of which the eexec line is the last.
-fn clear_lines(alloc: Global, parts: &Parts) -> Result<Vec<Bytes>, AllocError>
+fn clear_lines(alloc: Global, parts: &PartBytes) -> Result<Vec<Bytes>, AllocError>
     ensures { IfOk result
         (λ clear. clear.items ≡ lines parts.now.clear.now ++ parts.now.eexec.now ∷ []) }
 {

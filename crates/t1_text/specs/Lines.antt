@@ -1,5 +1,5 @@
 -- Lines of a text.
-use Rattle.std.specs.Prelude.{ℕ, Bool, false, not, ◌||◌, ◌&&◌, ◌==◌, if◌then◌else◌, List, [], ◌∷◌, ◌++◌, drop, reverse, flat_map}
+use Rattle.std.specs.Prelude.{ℕ, Bool, false, not, ◌||◌, ◌&&◌, ◌==◌, if◌then◌else◌, List, [], ◌∷◌, ◌++◌, ◌-◌, length, take, drop, reverse, flat_map}
 use Rattle.std.specs.List.{list_all, onto_first}
 use Rattle.t1_frac.specs.Ascii.{carriage_return, line_feed}
 use Rattle.t1_frac.specs.Words.{trimmed_front}
@@ -44,3 +44,7 @@ trimmed l = reverse (trimmed_front (reverse (trimmed_front l)))
 -- profile, lines: whether a line has no line end in it
 abbrev pub is_line : List ℕ → Bool
 is_line l = list_all (λ c. not (is_line_end c)) l
+
+-- profile, lines: the bytes in front of the rest of some bytes
+abbrev pub before_rest : List ℕ → List ℕ → List ℕ
+before_rest bytes rest = take (length bytes - length rest) bytes

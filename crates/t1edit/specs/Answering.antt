@@ -1,6 +1,6 @@
 -- What calls within the program answer.
 use Rattle.std.specs.Prelude.{◌≡◌, ℕ, Bool, List, Option, Result, Ok, Err}
-use Rattle.t1edit.specs.declared.assembling.Form.{Form}
+use Rattle.t1edit.specs.declared.assembling.OutputForm.{OutputForm}
 use Rattle.t1edit.specs.declared.status.Stop.{Stop}
 use Rattle.t1edit.specs.Assembling.{form}
 use Rattle.t1edit.specs.declared.file_error.FileError.{FileError}
@@ -9,7 +9,7 @@ use Rattle.t1_disassemble.specs.declared.fault.FontFault.{FontFault}
 use Rattle.t1_session.specs.declared.error.ServeError.TheVariants as errors
 
 -- word: a call answers with that form
-abbrev pub FormIs : Bool → Option (List ℕ) → Result Form Stop → Type 0
+abbrev pub FormIs : Bool → Option (List ℕ) → Result OutputForm Stop → Type 0
 FormIs pfa block result = result ≡ form pfa block
 
 -- word: why there is no source: the fault that the definition gives, or want of memory

@@ -6,7 +6,7 @@ use Rattle.t1_frac.specs.declared.fault.Place.{Place}
 use Rattle.t1_frac.specs.declared.fault.Place.TheVariants.{Nowhere}
 use Rattle.t1_commands.specs.AnswerTexts.{code_name, place_text}
 use Rattle.t1_command_line.specs.Topics.{meaning}
-use Rattle.t1_command_line.specs.declared.topic.Section.{Section}
+use Rattle.t1_command_line.specs.declared.topic.TopicGroup.{TopicGroup}
 use Rattle.t1_faults.specs.declared.call_chains.CallChain.{CallChain}
 use Rattle.t1_faults.specs.declared.found.FoundFault.{FoundFault}
 use Rattle.t1_fault_texts.specs.Hints.{hint}
@@ -18,7 +18,7 @@ abbrev pub position_text : List ℕ → FoundFault → List ℕ
 position_text path fault = path ++ (codes ":" ++ (decimal fault.line ++ (codes ":" ++ (decimal fault.column ++ codes ": "))))
 
 -- profile, faults: the code of a fault, its place, and what the code means
-abbrev pub title_text : List Section → FoundFault → List ℕ
+abbrev pub title_text : List TopicGroup → FoundFault → List ℕ
 title_text sections fault = code_name fault.code ++ (place_text fault.place ++ (codes ": " ++ meaning sections (code_name fault.code)))
 
 -- profile, faults: the word of a fault after a colon, where it has one
@@ -32,7 +32,7 @@ in_brackets [] = []
 in_brackets (c ∷ rest) = codes " (" ++ (c ∷ rest ++ codes ")")
 
 -- profile, faults: the line that says what is wrong, and where
-abbrev pub fault_heading : List ℕ → List Section → FoundFault → List ℕ
+abbrev pub fault_heading : List ℕ → List TopicGroup → FoundFault → List ℕ
 fault_heading path sections fault =
     position_text path fault ++ (title_text sections fault ++ (after_colon fault.word ++ (in_brackets (hint fault) ++ codes "\n")))
 
@@ -80,10 +80,10 @@ abbrev pub composites_line : List (List ℕ) → List ℕ
 composites_line names = listed_line (listed (codes ", ") names)
 
 -- profile, faults: all lines of a fault
-abbrev pub fault_lines : List ℕ → List Section → List (List ℕ) → FoundFault → List ℕ
+abbrev pub fault_lines : List ℕ → List TopicGroup → List (List ℕ) → FoundFault → List ℕ
 fault_lines path sections ls fault =
     fault_heading path sections fault ++ (excerpt fault.place ls fault ++ (flat_map chain_line fault.chains ++ composites_line fault.composites))
 
 -- profile, faults: all lines of the faults of a file that has these lines
-abbrev pub faults_lines : List ℕ → List Section → List (List ℕ) → List FoundFault → List ℕ
+abbrev pub faults_lines : List ℕ → List TopicGroup → List (List ℕ) → List FoundFault → List ℕ
 faults_lines path sections ls faults = flat_map (fault_lines path sections ls) faults

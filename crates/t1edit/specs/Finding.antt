@@ -1,7 +1,7 @@
 -- The faults of sources and of kerning files.
 use Rattle.std.specs.Prelude.{ℕ, Bool, true, false, not, ◌==◌, List, length}
 use Rattle.t1_text.specs.Lines.{lines}
-use Rattle.t1_command_line.specs.declared.topic.Section.{Section}
+use Rattle.t1_command_line.specs.declared.topic.TopicGroup.{TopicGroup}
 use Rattle.t1_fault_texts.specs.Finding.{pairs_faults}
 use Rattle.t1_faults.specs.Judging.{source_faults}
 use Rattle.t1_faults.specs.declared.found.FoundFault.{FoundFault}
@@ -23,12 +23,12 @@ faults_in sought.Source bytes = source_faults bytes
 faults_in sought.Pairs bytes = pairs_faults bytes
 
 -- profile, faults: the faults of a file of this name in a layout
-abbrev pub laid_out : List Section → Layout → List ℕ → List ℕ → List FoundFault → List ℕ
+abbrev pub laid_out : List TopicGroup → Layout → List ℕ → List ℕ → List FoundFault → List ℕ
 laid_out sections layouts.Lines path bytes faults = faults_lines path sections (lines bytes) faults
 laid_out sections layouts.Json path bytes faults = faults_json path faults
 
 -- profile, faults: what is told of a file
-abbrev pub faults_on : List Section → Layout → Sought → List ℕ → List ℕ → List ℕ
+abbrev pub faults_on : List TopicGroup → Layout → Sought → List ℕ → List ℕ → List ℕ
 faults_on sections layout sought path bytes = laid_out sections layout path bytes (faults_in sought bytes)
 
 -- profile, faults: whether a file has what is sought

@@ -19,7 +19,7 @@ impl Model for BlockSize {
 
 /// The form of an assembled file.
 #[derive(Drop)]
-pub enum Form {
+pub enum OutputForm {
     /// The PFB file, a segment a part.
     Pfb,
     /// The PFB file in segments of one length.
@@ -44,17 +44,17 @@ use t1_commands::block_size_of_word;
 use t1_session::{ServeError, assemble_blocks, assemble_pfa, assemble_source};
 
 /// The form that the options ask for, a block length being 1 to 2147483647.
-pub fn form_of(pfa: bool, block: Option<&str>) -> Result<Form, Stop>
+pub fn form_of(pfa: bool, block: Option<&str>) -> Result<OutputForm, Stop>
     ensures { FormIs pfa (option_map (λ word. word.now) block.entry) result }
 {
     if pfa {
-        return Ok(Form::Pfa);
+        return Ok(OutputForm::Pfa);
     }
     let Some(word) = block else {
-        return Ok(Form::Pfb);
+        return Ok(OutputForm::Pfb);
     };
     match block_size_of_word(word.as_bytes()) {
-        Some(size) => Ok(Form::Blocks(BlockSize { size })),
+        Some(size) => Ok(OutputForm::Blocks(BlockSize { size })),
         None => Err(Stop::Misused(Misuse::BlockLength)),
     }
 }
@@ -63,15 +63,15 @@ pub fn form_of(pfa: bool, block: Option<&str>) -> Result<Form, Stop>
 pub fn assemble_as<W: Write>(
     alloc: Global,
     source: &[u8],
-    form: &Form,
+    form: &OutputForm,
     out: &mut Counted<W>,
 ) -> Result<(), ServeError>
     ensures { Delivers W.contents out.old out.new (file_in_form form.now source.now) result }
 {
     match form {
-        Form::Pfb => assemble_source(alloc, source, out),
-        Form::Blocks(block) => assemble_blocks(alloc, source, block.size, out),
-        Form::Pfa => assemble_pfa(alloc, source, out),
+        OutputForm::Pfb => assemble_source(alloc, source, out),
+        OutputForm::Blocks(block) => assemble_blocks(alloc, source, block.size, out),
+        OutputForm::Pfa => assemble_pfa(alloc, source, out),
     }
 }
 
@@ -80,7 +80,7 @@ pub fn assemble_file<W: Write>(
     alloc: Global,
     kind: Kind,
     file: Vec<u8>,
-    form: &Form,
+    form: &OutputForm,
     out: &mut Counted<W>,
 ) -> Result<(), FileError>
     ensures { OnSource (source_in_file kind file.items) out.old out.new

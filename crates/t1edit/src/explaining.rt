@@ -7,13 +7,13 @@ use crate::status::{Misuse, Stop};
 use std::alloc::Global;
 use std::io::Write;
 use t1_code::Counted;
-use t1_command_line::{Section, explanation};
+use t1_command_line::{TopicGroup, explanation};
 use t1_session::ServeError;
 
 /// Writes what the sections say of a code; of all codes, in a few words, where none is given.
 pub fn explain<W: Write>(
     alloc: Global,
-    sections: &[Section],
+    sections: &[TopicGroup],
     code: Option<&str>,
     out: &mut Counted<W>,
 ) -> Result<(), Stop>

@@ -10,7 +10,7 @@ ghost use Rattle.t1edit.specs.FaultLines.{position_text, short_line, title_text,
 use crate::numbered_lines::NumberedLines;
 use itoa::Buffer;
 use std::alloc::{AllocError, Global};
-use t1_command_line::{Section, meaning};
+use t1_command_line::{TopicGroup, meaning};
 use t1_fault_texts::{code_name, hint_on, push_names, push_place, push_shown};
 use t1_faults::{CallChain, FoundFault};
 use t1_frac::{Bytes, Place, SourceText};
@@ -37,7 +37,7 @@ fn push_position(text: &mut Vec<u8>, path: &[u8], fault: &FoundFault<'_>) -> Res
 fn push_title(
     alloc: Global,
     text: &mut Vec<u8>,
-    sections: &[Section],
+    sections: &[TopicGroup],
     fault: &FoundFault<'_>,
 ) -> Result<(), AllocError>
     ensures { OnOk result (text.new.items ≡ text.old.items ++ title_text sections.now fault.now) }
@@ -83,7 +83,7 @@ fn push_head(
     alloc: Global,
     text: &mut Vec<u8>,
     path: &[u8],
-    sections: &[Section],
+    sections: &[TopicGroup],
     fault: &FoundFault<'_>,
 ) -> Result<(), AllocError>
     ensures { OnOk result (text.new.items ≡ text.old.items ++ fault_heading path.now sections.now
@@ -263,7 +263,7 @@ fn push_fault(
     alloc: Global,
     text: &mut Vec<u8>,
     path: &[u8],
-    sections: &[Section],
+    sections: &[TopicGroup],
     lines: &mut NumberedLines<'_>,
     fault: &FoundFault<'_>,
 ) -> Result<(), AllocError>
@@ -281,7 +281,7 @@ fn push_fault(
 pub fn faults_lines(
     alloc: Global,
     path: &[u8],
-    sections: &[Section],
+    sections: &[TopicGroup],
     source: &[u8],
     faults: &[FoundFault<'_>],
 ) -> Result<Vec<u8>, AllocError>

@@ -6,7 +6,7 @@ use crate::fault_json::faults_json;
 use crate::fault_lines::faults_lines;
 use crate::reporting::{Report, Told};
 use std::alloc::{AllocError, Global};
-use t1_command_line::Section;
+use t1_command_line::TopicGroup;
 use t1_fault_texts::pairs_faults;
 use t1_faults::{FoundFault, source_faults};
 
@@ -48,7 +48,7 @@ fn faults_in(alloc: Global, sought: Sought, bytes: &[u8]) -> Result<Vec<FoundFau
 /// The faults of a file of this name, laid out.
 fn laid_out(
     alloc: Global,
-    sections: &[Section],
+    sections: &[TopicGroup],
     layout: Layout,
     path: &str,
     bytes: &[u8],
@@ -66,7 +66,7 @@ fn laid_out(
 /// What is told of a file of this name.
 fn faults_on(
     alloc: Global,
-    sections: &[Section],
+    sections: &[TopicGroup],
     layout: Layout,
     sought: Sought,
     path: &str,
@@ -86,7 +86,7 @@ fn faults_on(
 #[derive(Clone, Copy)]
 pub struct Faults<'a> {
     /// What each code means.
-    pub sections: &'a [Section],
+    pub sections: &'a [TopicGroup],
     pub layout: Layout,
     pub sought: Sought,
 }

@@ -3,13 +3,13 @@ ghost use Rattle.std.specs.Prelude.{◌≡◌};
 ghost use Rattle.t1_command_line.specs.Codes.{outline_of, body_codes};
 
 use crate::table::FAULT_EXAMPLE;
-use crate::topic::{Section, Topic};
+use crate::topic::{Topic, TopicGroup};
 
 /// What is said of each fault of a word.
 const OF_A_WORD: &str =
     "\n't1edit faults SOURCE' shows each such word, with its line and its column.\n";
 
-const SECTION: Section = Section {
+const SECTION: TopicGroup = TopicGroup {
     title: "Faults of a body, and of the PFB file",
     topics: &[
         Topic {
@@ -68,7 +68,7 @@ const SECTION: Section = Section {
     ],
 };
 
-pub(crate) fn section() -> Section
+pub(crate) fn section() -> TopicGroup
     ensures { outline_of result ≡ body_codes }
 {
     SECTION

@@ -3,7 +3,7 @@ ghost use Rattle.std.specs.Prelude.{◌≡◌};
 ghost use Rattle.t1_command_line.specs.Codes.{outline_of, disassembling};
 
 use crate::table::FAULT_EXAMPLE;
-use crate::topic::{Section, Topic};
+use crate::topic::{Topic, TopicGroup};
 
 /// What stands above the first bytes of a file that has a fault.
 const FILE_EXAMPLE: &str =
@@ -20,7 +20,7 @@ const PRIVATE_EXAMPLE: &str =
 const CHARSTRING_EXAMPLE: &str =
     "For example, a charstring of these bytes, in hexadecimal and decrypted, has the fault:\n\n";
 
-const SECTION: Section = Section {
+const SECTION: TopicGroup = TopicGroup {
     title: "Faults of disassembling a font's file",
     topics: &[
         Topic {
@@ -200,7 +200,7 @@ const SECTION: Section = Section {
     ],
 };
 
-pub(crate) fn section() -> Section
+pub(crate) fn section() -> TopicGroup
     ensures { outline_of result ≡ disassembling }
 {
     SECTION

@@ -3,9 +3,9 @@ ghost use Rattle.std.specs.Prelude.{◌≡◌};
 ghost use Rattle.t1_command_line.specs.Codes.{outline_of, kerning};
 
 use crate::table::FAULT_EXAMPLE;
-use crate::topic::{Section, Topic};
+use crate::topic::{Topic, TopicGroup};
 
-const SECTION: Section = Section {
+const SECTION: TopicGroup = TopicGroup {
     title: "Faults of reading a kerning file",
     topics: &[
         Topic {
@@ -35,7 +35,7 @@ const SECTION: Section = Section {
     ],
 };
 
-pub(crate) fn section() -> Section
+pub(crate) fn section() -> TopicGroup
     ensures { outline_of result ≡ kerning }
 {
     SECTION

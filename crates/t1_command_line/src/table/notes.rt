@@ -2,12 +2,12 @@
 ghost use Rattle.std.specs.Prelude.{◌≡◌};
 ghost use Rattle.t1_command_line.specs.Codes.{outline_of, note_codes};
 
-use crate::topic::{Section, Topic};
+use crate::topic::{Topic, TopicGroup};
 
 /// What stands above lines that have a note.
 const NOTE_EXAMPLE: &str = "For example, this has the note:\n\n";
 
-const SECTION: Section = Section {
+const SECTION: TopicGroup = TopicGroup {
     title: "Notes on a source, by t1edit notes",
     topics: &[
         Topic {
@@ -243,7 +243,7 @@ const SECTION: Section = Section {
     ],
 };
 
-pub(crate) fn section() -> Section
+pub(crate) fn section() -> TopicGroup
     ensures { outline_of result ≡ note_codes }
 {
     SECTION

@@ -2,12 +2,12 @@
 ghost use Rattle.std.specs.Prelude.{◌≡◌};
 ghost use Rattle.t1_command_line.specs.Codes.{outline_of, rules};
 
-use crate::topic::{Section, Topic};
+use crate::topic::{Topic, TopicGroup};
 
 /// What stands above commands that break a rule.
 const RULE_EXAMPLE: &str = "For example, this breaks the rule:\n\n";
 
-const SECTION: Section = Section {
+const SECTION: TopicGroup = TopicGroup {
     title: "Rules of a session's commands",
     topics: &[
         Topic {
@@ -146,7 +146,7 @@ const SECTION: Section = Section {
     ],
 };
 
-pub(crate) fn section() -> Section
+pub(crate) fn section() -> TopicGroup
     ensures { outline_of result ≡ rules }
 {
     SECTION

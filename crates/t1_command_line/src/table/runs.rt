@@ -3,7 +3,7 @@ ghost use Rattle.std.specs.Prelude.{◌≡◌};
 ghost use Rattle.t1_command_line.specs.Codes.{outline_of, run_codes};
 
 use crate::table::FAULT_EXAMPLE;
-use crate::topic::{Section, Topic};
+use crate::topic::{Topic, TopicGroup};
 
 /// What is said of each fault of a run.
 const OF_A_RUN: &str = "\n\
@@ -11,7 +11,7 @@ const OF_A_RUN: &str = "\n\
     ends in seac, it may stand on the faulty glyph: look at its parts too, and at the Subrs that they\n\
     call. 't1edit faults SOURCE' shows the word itself, its line, and the calls on the way to it.\n";
 
-const SECTION: Section = Section {
+const SECTION: TopicGroup = TopicGroup {
     title: "Faults of running a glyph",
     topics: &[
         Topic {
@@ -263,7 +263,7 @@ const SECTION: Section = Section {
     ],
 };
 
-pub(crate) fn section() -> Section
+pub(crate) fn section() -> TopicGroup
     ensures { outline_of result ≡ run_codes }
 {
     SECTION

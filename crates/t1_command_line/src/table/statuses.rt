@@ -2,9 +2,9 @@
 ghost use Rattle.std.specs.Prelude.{◌≡◌};
 ghost use Rattle.t1_command_line.specs.Codes.{outline_of, statuses};
 
-use crate::topic::{Section, Topic};
+use crate::topic::{Topic, TopicGroup};
 
-const SECTION: Section = Section {
+const SECTION: TopicGroup = TopicGroup {
     title: "Exit statuses",
     topics: &[
         Topic {
@@ -64,7 +64,7 @@ const SECTION: Section = Section {
     ],
 };
 
-pub(crate) fn section() -> Section
+pub(crate) fn section() -> TopicGroup
     ensures { outline_of result ≡ statuses }
 {
     SECTION

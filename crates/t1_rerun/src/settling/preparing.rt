@@ -15,7 +15,7 @@ ghost use Rattle.t1_rerun.specs.Settled.{changed_keys, AreDistinctKeys};
 ghost use Rattle.t1_rerun.specs.Steps.{entry_change, inserts, new_run, new_run_of, some_inserts};
 ghost use Rattle.t1_rerun.specs.Steps.{takes_out, AreStepsOf, AreTakenOut, IsStepOf};
 
-use super::steps::Step;
+use super::steps::RecordChange;
 use crate::entry_change::EntryChange;
 use indexmap::{IndexMap, IndexSet};
 use std::alloc::{AllocError, Global};
@@ -71,7 +71,7 @@ fn subr_step(
     number: u16,
     body: Body,
     counts: &Counts,
-) -> Result<Step, AllocError>
+) -> Result<RecordChange, AllocError>
     ensures step { IfOk result
         (λ step.
         (run : List ℕ → Option (TracedRun × Option BBox)) (moved : Bool)
@@ -80,10 +80,10 @@ fn subr_step(
     ensures apart { IfOk result (λ step. (g : List ℕ) → inserts step g ≡ false) }
 {
     if records.subr(number).is_some() {
-        return Ok(Step::Put(Named::Subr(number), body));
+        return Ok(RecordChange::Put(Named::Subr(number), body));
     }
     let users = users_of_subr(alloc, counts, number)?;
-    Ok(Step::InsertSubr(number, SubrRecord { body, users }))
+    Ok(RecordChange::InsertSubr(number, SubrRecord { body, users }))
 }
 
 /// The step of a glyph that has this body in the edited font, with its new run where it is put in.
@@ -95,7 +95,7 @@ fn glyph_step(
     moved: bool,
     counts: &Counts,
     runs: &mut NewRuns,
-) -> Result<Step, AllocError>
+) -> Result<RecordChange, AllocError>
     ensures step { IfOk result
         (IsStepOf (new_run (reruns_by_name runs.old.entries)) (count_at counts.now) records.now
         (entry_change (named.Glyph name) (Some body) moved)) }
@@ -106,11 +106,11 @@ fn glyph_step(
         ≡ (if inserts step g then None else new_run (reruns_by_name runs.old.entries) g)) }
 {
     if keeps_place(records, name.as_slice(), moved) {
-        return Ok(Step::Put(Named::Glyph(name), body));
+        return Ok(RecordChange::Put(Named::Glyph(name), body));
     }
     let users = users_of_glyph(alloc, counts, name.as_slice())?;
     let Some(NewRun { run, bbox }) = taken_run(runs, name.as_slice()) else {
-        return Ok(Step::Remove(Named::Glyph(name)));
+        return Ok(RecordChange::Remove(Named::Glyph(name)));
     };
     let record = GlyphRecord {
         body,
@@ -118,7 +118,7 @@ fn glyph_step(
         bbox,
         users,
     };
-    Ok(Step::InsertGlyph(name.into_vec(), record))
+    Ok(RecordChange::InsertGlyph(name.into_vec(), record))
 }
 
 /// The step of a change.
@@ -128,7 +128,7 @@ fn step_of(
     change: EntryChange,
     counts: &Counts,
     runs: &mut NewRuns,
-) -> Result<Step, AllocError>
+) -> Result<RecordChange, AllocError>
     ensures step { IfOk result
         (IsStepOf (new_run (reruns_by_name runs.old.entries)) (count_at counts.now) records.now
         change) }
@@ -140,7 +140,7 @@ fn step_of(
 {
     let EntryChange { named, body, moved } = change;
     let Some(body) = body else {
-        return Ok(Step::Remove(named));
+        return Ok(RecordChange::Remove(named));
     };
     match named {
         Named::Subr(number) => subr_step(alloc, records, number, body, counts),
@@ -155,7 +155,7 @@ fn steps_of(
     changes: Vec<EntryChange>,
     counts: &Counts,
     runs: &mut NewRuns,
-) -> Result<Vec<Step>, AllocError>
+) -> Result<Vec<RecordChange>, AllocError>
     requires { AreDistinctKeys (changed_keys changes.items) }
     ensures steps { IfOk result
         (λ steps.
@@ -185,7 +185,7 @@ pub fn steps_with_room(
     changes: Vec<EntryChange>,
     joins: &[(Named, Vec<u8>)],
     runs: &mut NewRuns,
-) -> Result<Vec<Step>, AllocError>
+) -> Result<Vec<RecordChange>, AllocError>
     requires { AreDistinctKeys (changed_keys changes.items) }
     ensures steps { IfOk result
         (λ steps.
@@ -204,18 +204,18 @@ pub fn steps_with_room(
 }
 
 /// The glyph that a step takes out of its place, where it takes out one.
-fn name_taken_out(step: &Step) -> Option<&[u8]>
+fn name_taken_out(step: &RecordChange) -> Option<&[u8]>
     ensures { IfSome result (λ name. takes_out step.now name.now ≡ true) }
 {
     match step {
-        Step::Remove(Named::Glyph(name)) => Some(name.as_slice()),
-        Step::InsertGlyph(name, _) => Some(name.as_slice()),
+        RecordChange::Remove(Named::Glyph(name)) => Some(name.as_slice()),
+        RecordChange::InsertGlyph(name, _) => Some(name.as_slice()),
         _ => None,
     }
 }
 
 /// The same, where the glyph has a record.
-fn recorded_name_taken_out<'a>(records: &Records, step: &'a Step) -> Option<&'a [u8]>
+fn recorded_name_taken_out<'a>(records: &Records, step: &'a RecordChange) -> Option<&'a [u8]>
     ensures { IfSome result (λ name. takes_out step.now name.now ≡ true) }
 {
     let name = name_taken_out(step)?;
@@ -228,7 +228,11 @@ fn recorded_name_taken_out<'a>(records: &Records, step: &'a Step) -> Option<&'a 
 /// The names of the glyphs with a record that steps take out of their places, where there are
 /// several steps. They save time alone: a step takes out its glyph where that is still there, and
 /// for one glyph that takes less time than a pass over all.
-pub fn taken_out(alloc: Global, records: &Records, steps: &[Step]) -> Result<Names, AllocError>
+pub fn taken_out(
+    alloc: Global,
+    records: &Records,
+    steps: &[RecordChange],
+) -> Result<Names, AllocError>
     ensures { IfOk result (λ names. AreTakenOut names.keys steps.now) }
 {
     let mut names = IndexSet::new(alloc);

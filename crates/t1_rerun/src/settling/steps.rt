@@ -17,7 +17,7 @@ use t1_code::Body;
 
 /// A change of one record, with all the memory that it takes.
 #[derive(Drop)]
-pub enum Step {
+pub enum RecordChange {
     /// The record is taken out.
     Remove(Named),
     /// The record has another body.
@@ -57,24 +57,24 @@ fn put(records: &mut Records, named: &Named, body: Body)
 }
 
 /// Makes one change, in the room that was made. It takes no memory and can't fail.
-fn change_one(records: &mut Records, step: Step)
+fn change_one(records: &mut Records, step: RecordChange)
     requires subrs { 0 < spare records.old.subrs }
     requires glyphs { 0 < spare records.old.glyphs }
     ensures seen { seen records.new ≡ seen_after step (seen records.old) }
     ensures room { UsesUp 1 records.old records.new }
 {
     match step {
-        Step::Remove(named) => remove(records, &named),
-        Step::Put(named, body) => put(records, &named, body),
-        Step::InsertSubr(number, record) => put_in_subr(records, number, record),
-        Step::InsertGlyph(name, record) => put_last_glyph(records, name, record),
+        RecordChange::Remove(named) => remove(records, &named),
+        RecordChange::Put(named, body) => put(records, &named, body),
+        RecordChange::InsertSubr(number, record) => put_in_subr(records, number, record),
+        RecordChange::InsertGlyph(name, record) => put_last_glyph(records, name, record),
     }
 }
 
 /// Makes the changes, the last one first, in the room that was made. It takes no memory and can't
 /// fail. The glyphs that are named as taken out go first, all in one pass over the records: a step
 /// takes out a glyph that isn't there at once.
-pub fn change_all(records: &mut Records, steps: Vec<Step>, taken: &Names)
+pub fn change_all(records: &mut Records, steps: Vec<RecordChange>, taken: &Names)
     requires taken { AreTakenOut taken.now.keys steps.items }
     requires subrs { length steps.items ≤ spare records.old.subrs }
     requires glyphs { length steps.items ≤ spare records.old.glyphs }

@@ -1,8 +1,8 @@
 use Rattle.std.proofs.Common.{◌≡◌, ◌++◌, List, Ok, Some, ℕ, Result, sym, ap, ◌∙◌, subst, rules}
-use Rattle.t1_text.specs.Lines.{lines, joined}
+use Rattle.t1_text.specs.Lines.{lines, joined, before_rest}
 use Rattle.t1_disassemble.specs.declared.fault.FontFault.{FontFault}
 use Rattle.t1_disassemble.specs.Disassembly.{source_of}
-use Rattle.t1_disassemble.specs.Front.{after_eexec, before_rest, past_spaces}
+use Rattle.t1_disassemble.specs.Front.{after_eexec, past_spaces}
 use Rattle.t1_disassemble.specs.Kinds.{plain_kind}
 use Rattle.t1_disassemble.specs.Outcome.{GivesFont}
 use Rattle.t1_disassemble.specs.SegmentsRead.{FontParts}

@@ -1,6 +1,6 @@
 use Rattle.std.proofs.Common.{◌≡◌, ◌||◌, ℕ, drop}
 use Rattle.t1_measured_notes.specs.MeasuredNotes.{is_entered}
-use Rattle.t1_measured_notes.specs.UnusedByLine.{has_number}
+use Rattle.t1_run.specs.RunKeys.{has_number}
 use Rattle.t1_measured_notes.proofs.entered.entered_numbers.Given as goal
 
 -- the numbers so far, and those of the glyphs that are left

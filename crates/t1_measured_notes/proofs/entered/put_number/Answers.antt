@@ -1,5 +1,5 @@
 use Rattle.std.proofs.Common.{◌∙◌, ap}
-use Rattle.t1_measured_notes.specs.UnusedByLine.{has_number}
+use Rattle.t1_run.specs.RunKeys.{has_number}
 use Rattle.t1_measured_notes.proofs.Numbering.{number_put}
 use Rattle.t1_measured_notes.proofs.entered.put_number.Goals as goal
 

@@ -1,6 +1,6 @@
 use Rattle.std.proofs.Common.{◌≡◌, ◌||◌, ℕ, nat_eq, drop}
 use Rattle.std.specs.List.{list_any}
-use Rattle.t1_measured_notes.specs.UnusedByLine.{has_number}
+use Rattle.t1_run.specs.RunKeys.{has_number}
 use Rattle.t1_measured_notes.proofs.entered.put_numbers.Given as goal
 
 -- the numbers so far, and those that are left

@@ -1,5 +1,6 @@
 use Rattle.std.proofs.Common.{◌++◌, ◌∙◌, ap, sym, append-nil, drop_of_length-le}
-use Rattle.t1_measured_notes.specs.UnusedByLine.{has_number, unused_by_line}
+use Rattle.t1_measured_notes.specs.UnusedByLine.{unused_by_line}
+use Rattle.t1_run.specs.RunKeys.{has_number}
 use Rattle.t1_measured_notes.proofs.Unused.{unused_by}
 use Rattle.t1_measured_notes.proofs.subrs.push_heads.Goals as goal
 

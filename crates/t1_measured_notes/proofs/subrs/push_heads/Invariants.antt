@@ -1,5 +1,6 @@
 use Rattle.std.proofs.Common.{◌≡◌, ◌++◌, false, drop}
-use Rattle.t1_measured_notes.specs.UnusedByLine.{has_number, unused_by_line}
+use Rattle.t1_measured_notes.specs.UnusedByLine.{unused_by_line}
+use Rattle.t1_run.specs.RunKeys.{has_number}
 use Rattle.t1_measured_notes.proofs.subrs.push_heads.Given as goal
 
 -- the notes so far, and those of the lines that are left

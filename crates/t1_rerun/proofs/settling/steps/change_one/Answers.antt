@@ -1,5 +1,5 @@
 use Rattle.std.proofs.Common.{◌≡◌, ◌∙◌, ap, sym}
-use Rattle.t1_rerun.specs.declared.settling.steps.Step.TheVariants as steps
+use Rattle.t1_rerun.specs.declared.settling.steps.RecordChange.TheVariants as steps
 use Rattle.t1_rerun.specs.Steps.{seen_after, seen}
 use Rattle.t1_rerun.proofs.settling.steps.change_one.Goals as goal
 

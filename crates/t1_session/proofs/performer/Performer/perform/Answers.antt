@@ -1,7 +1,7 @@
 use Rattle.std.proofs.Common.{Ok, subst, sym, ◌∙◌}
 use Rattle.t1_code.specs.Parts.{Prints}
 use Rattle.t1_commands.specs.AnswerTexts.{answer_text}
-use Rattle.t1_commands.specs.declared.command.Command.TheVariants as commands
+use Rattle.t1_commands.specs.declared.command.SessionCommand.TheVariants as commands
 use Rattle.t1_session.specs.Conversation.{IsPerformed}
 use Rattle.t1_session.specs.Machine.{printed, shown_answer}
 use Rattle.t1_session.specs.State.{SessionState}

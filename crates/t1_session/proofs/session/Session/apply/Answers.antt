@@ -1,5 +1,5 @@
 use Rattle.std.proofs.Common.{ap, subst, sym}
-use Rattle.t1_commands.specs.declared.command.Command.TheVariants as commands
+use Rattle.t1_commands.specs.declared.command.SessionCommand.TheVariants as commands
 use Rattle.t1_session.specs.Records.{AreFromScratch}
 use Rattle.t1_session.specs.Reruns.{edition, Reruns}
 use Rattle.t1_session.specs.State.{SessionView}

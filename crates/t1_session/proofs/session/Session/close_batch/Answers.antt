@@ -1,5 +1,5 @@
 use Rattle.std.proofs.Common.{◌≡◌, Some, ap, map, rules, subst, sym, ◌∙◌}
-use Rattle.t1_commands.specs.declared.command.Command.TheVariants as commands
+use Rattle.t1_commands.specs.declared.command.SessionCommand.TheVariants as commands
 use Rattle.t1_cache.specs.Recorded.{kept_of}
 use Rattle.t1_held.specs.Batch.{Draft, entry_edit, keys}
 use Rattle.t1_session.specs.Reruns.{Edition, edition, edition_in}

@@ -1,6 +1,6 @@
 use Rattle.std.proofs.Common.{None, Result, ap, refl, subst, sym, true}
 use Rattle.t1_source.specs.declared.edit.Cause.{Cause}
-use Rattle.t1_commands.specs.declared.command.Command.TheVariants as commands
+use Rattle.t1_commands.specs.declared.command.SessionCommand.TheVariants as commands
 use Rattle.t1_session.specs.Machine.{keeping, outcome}
 use Rattle.t1_session.specs.Outcomes.{TookNoted}
 use Rattle.t1_session.specs.Records.{AreFromScratch}
