@@ -71,14 +71,14 @@ fn first_number(text: &[u8]) -> Option<(Result<Command, Code>, &[u8])>
 /// The command of a number of this size, which is short.
 #[inline(always)]
 fn short_number_command(minus: bool, size: u32) -> Command
-    requires { size < 1000 }
+    requires { size < 10000 }
     ensures { Ok result ≡ number_command (in_32_bits (signed minus size)) }
 {
     let number = size as i32;
     Command::Num(if minus { -number } else { number })
 }
 
-/// The number word of up to three digits that a text begins with, as a command, and the bytes after
+/// The number word of up to four digits that a text begins with, as a command, and the bytes after
 /// it. Most words are so. Nothing is said where it answers nothing: the number may be longer, or
 /// the last word of the text.
 #[inline(always)]

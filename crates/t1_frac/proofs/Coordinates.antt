@@ -37,7 +37,7 @@ unfolding coordinate_sum
 whole_sum a b n is e f = ap (λ k. within F40 (2 ^ 20) (whole k)) is ∙ ap (within F40 (2 ^ 20)) (sym (sum_whole a b e f))
 
 -- the sum over a denominator that is a multiple of the other, as it is read
-long_sum : (n r : ℤ) → unsigned_abs n ≤ 2 ^ 40 → unsigned_abs r ≤ 2 ^ 60 → to_z w64 (of_z w64 (to_z w64 (of_z w64 n) +ℤ to_z w64 (of_z w64 r))) ≡ n +ℤ r
+pub long_sum : (n r : ℤ) → unsigned_abs n ≤ 2 ^ 40 → unsigned_abs r ≤ 2 ^ 60 → to_z w64 (of_z w64 (to_z w64 (of_z w64 n) +ℤ to_z w64 (of_z w64 r))) ≡ n +ℤ r
 long_sum n r h k = omega (arith, ints, h, k)
 
 multiple_read : (x y : Fraction) (r : ℤ) → unsigned_abs x.num ≤ 2 ^ 40 → x.den % y.den ≡ 0 → 0 < x.den → 0 < y.den

@@ -12,4 +12,5 @@ pub mod Rows
 pub mod SameLowest
 pub mod SmallPrimes
 pub mod Sums
+pub mod WholeSums
 pub mod WordLaws

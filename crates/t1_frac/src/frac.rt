@@ -376,6 +376,35 @@ impl Frac {
         (self.num + right, self.den)
     }
 
+    /// The numerator of the sum with a whole number, over the same denominator. It is in lowest
+    /// terms, as the fraction is.
+    fn whole_sum_num(&self, other: &Frac) -> i64
+        requires left_short { unsigned_abs self.now.num ≤ 2 ^ 40 }
+        requires right_short { unsigned_abs other.now.num ≤ 2 ^ 40 }
+        requires whole { other.now.den ≡ 1 }
+        ensures sum { record { num = result; den = self.now.den }
+            ≡ lowest (plus self.now other.now) }
+        ensures coprime { gcd_of (unsigned_abs result) self.now.den ≡ 1 }
+    {
+        let right = scaled(other.num, self.den);
+        self.num + right
+    }
+
+    /// The sum of a short fraction and a short whole number.
+    #[tactic(auto, unfolding(crate::specs::Limits::coordinate_sum))]
+    #[inline(always)]
+    fn plus_whole(&self, other: &Frac) -> Result<Frac, Code>
+        requires left_short { unsigned_abs self.now.num ≤ 2 ^ 40 }
+        requires right_short { unsigned_abs other.now.num ≤ 2 ^ 40 }
+        requires whole { other.now.den ≡ 1 }
+        ensures { result ≡ coordinate_sum self.now other.now }
+    {
+        let num = self.whole_sum_num(other);
+        let den = self.den;
+        check_limits(Code::F40, 1 << 20, num, den)?;
+        Ok(Frac { num, den })
+    }
+
     /// The sum of two short fractions of which this one's denominator is the greater: over it,
     /// where it is a multiple of the other.
     #[tactic(auto, unfolding(crate::specs::Limits::coordinate_sum))]
@@ -480,6 +509,12 @@ impl Frac {
         }
         if !self.is_short() || !other.is_short() {
             return self.add_long(other);
+        }
+        if other.den == 1 {
+            return self.plus_whole(&other);
+        }
+        if self.den == 1 {
+            return other.plus_whole(&self);
         }
         if self.den > other.den {
             return self.short_sum(&other);

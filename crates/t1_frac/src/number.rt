@@ -85,18 +85,18 @@ fn leading_digits(text: &[u8]) -> (u64, usize)
 }
 
 /// The number that the digits at the front of a text write, and how many digits there are, where
-/// they are up to three and the text has four bytes or more; else nothing. Most numbers of a font
+/// they are up to four and the text has five bytes or more; else nothing. Most numbers of a font
 /// are so, and are told apart without a loop.
 #[inline(always)]
 pub fn leading_short_number(text: &[u8]) -> Option<(u32, usize)>
     ensures within { IfSome result (λ found. found.1 ≤ length text.now) }
     ensures count { IfSome result (λ found. found.1 ≡ prefix_len is_ascii_digit text.now) }
     ensures value { IfSome result (λ found. found.0 ≡ decimal_value (take found.1 text.now)) }
-    ensures short { IfSome result (λ found. found.0 < 1000) }
+    ensures short { IfSome result (λ found. found.0 < 10000) }
     ensures else_longer { result ≡ None
-        → (length text.now < 4) ⊎ (4 ≤ prefix_len is_ascii_digit text.now) }
+        → (length text.now < 5) ⊎ (5 ≤ prefix_len is_ascii_digit text.now) }
 {
-    let [first, second, third, fourth, ..] = text else {
+    let [first, second, third, fourth, fifth, ..] = text else {
         return None;
     };
     if !first.is_ascii_digit() {
@@ -113,6 +113,10 @@ pub fn leading_short_number(text: &[u8]) -> Option<(u32, usize)>
     let value = value * 10 + u32::from(*third - b'0');
     if !fourth.is_ascii_digit() {
         return Some((value, 3));
+    }
+    let value = value * 10 + u32::from(*fourth - b'0');
+    if !fifth.is_ascii_digit() {
+        return Some((value, 4));
     }
     None
 }

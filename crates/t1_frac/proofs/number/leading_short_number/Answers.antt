@@ -16,3 +16,6 @@ returns-then-not-is_ascii_digit-4-clause-count c = grind (arith, common_steps)
 
 pub returns-clause-else_longer : goal.returns-clause-else_longer
 returns-clause-else_longer c = grind (arith, common_steps)
+
+pub returns-then-not-is_ascii_digit-5-clause-count : goal.returns-then-not-is_ascii_digit-5-clause-count
+returns-then-not-is_ascii_digit-5-clause-count c = grind (arith, common_steps)
