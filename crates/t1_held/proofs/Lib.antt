@@ -1,6 +1,7 @@
 pub mod AloneLaws
 pub mod CommitLaws
 pub mod Drafting
+pub mod Encrypting
 pub mod Gathering
 pub mod HeldLaws
 pub mod Marking

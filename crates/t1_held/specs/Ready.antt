@@ -1,10 +1,13 @@
 -- What is ready to be kept of an edited source.
-use Rattle.std.specs.Prelude.{◌≡◌, ℕ, List}
+use Rattle.std.specs.Prelude.{◌≡◌, ℕ, false, List, None}
 use Rattle.std.specs.List.{list_any}
 use Rattle.t1_parts.specs.SourceParts.{SourceParts}
 use Rattle.t1_run.specs.Run.{Key}
 use Rattle.t1_run.specs.RunKeys.{key_eq}
 use Rattle.t1_font.specs.Assembly.{file_check}
+use Rattle.t1_charstrings.specs.declared.settling.ReadyCharstrings.{ReadyCharstrings}
+use Rattle.t1_charstrings.specs.declared.settling.ReadyCharstrings.TheVariants as charstrings
+use Rattle.t1_charstrings.specs.Kept.{charstring_at}
 use Rattle.t1_charstrings.specs.Ready.{IsReadyLines}
 use Rattle.t1_cache.specs.Edited.{stale}
 use Rattle.t1_rerun.specs.declared.entry_change.EntryChange.{EntryChange}
@@ -25,6 +28,11 @@ pub record IsReadyHeld (count : ℕ) (ks : List Key) (s made : SourceParts) (h :
   pub same : (k : Key) → list_any (key_eq k) (changed_keys changes) ≡ list_any (key_eq k) ks
   pub records : IsReadyFor count changes s made h.records ready.records
   pub lines : IsReadyLines made h.charstrings ready.lines
+
+-- word: charstrings were encrypted at these keys, and at no other
+abbrev pub EncryptsAt : List Key → ReadyCharstrings → Type 0
+EncryptsAt ks (charstrings.Edited entries) = (k : Key) → list_any (key_eq k) ks ≡ false → charstring_at entries.fresh k ≡ None
+EncryptsAt ks (charstrings.All all) = ⊥
 
 -- word: there are such edits and such sources
 pub record MayBeHeld (h : Held) (ready : ReadyHeld) : Type 0 where

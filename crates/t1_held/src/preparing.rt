@@ -1,18 +1,18 @@
 //! What is kept of a source, made ready for the source that edits make.
-ghost use Rattle.std.specs.Prelude.{◌≡◌, IfOk, length, map};
+ghost use Rattle.std.specs.Prelude.{◌≡◌, false, IfOk, length, map};
 ghost use Rattle.t1_frac.specs.Outcome.{Gives};
 ghost use Rattle.t1_parts.specs.SourceParts.{SourceParts};
 ghost use Rattle.t1_font.specs.Glyphs.{glyph_names};
 ghost use Rattle.t1_font.specs.Runs.{Counts};
 ghost use Rattle.t1_font.specs.SourceChecks.{source_check};
-ghost use Rattle.t1_charstrings.specs.Made.{made_of as made_in};
+ghost use Rattle.t1_charstrings.specs.Made.{made_of as made_in, may_set_lead};
 ghost use Rattle.t1_cache.specs.Edited.{stale};
 ghost use Rattle.t1_cache.specs.Recorded.{kept_of};
 ghost use Rattle.t1_rerun.specs.Changing.{AreChangesOf, IsReadyFor, MayBePrepared};
 ghost use Rattle.t1_rerun.specs.Settled.{changed_keys, AreAsBefore};
-ghost use Rattle.t1_held.specs.Edits.{keys_of, edits_made, edits_source, AreRight};
+ghost use Rattle.t1_held.specs.Edits.{keys_of, edits_made, edits_source, made_by, AreRight};
 ghost use Rattle.t1_held.specs.Held.{IsHeld};
-ghost use Rattle.t1_held.specs.Ready.{commit_runs, IsReadyHeld};
+ghost use Rattle.t1_held.specs.Ready.{commit_runs, EncryptsAt, IsReadyHeld};
 
 use crate::edits::Edits;
 use crate::entries::entries_of;
@@ -70,6 +70,9 @@ pub fn prepare_edits(
     ensures ready { IfOk result
         (IsReadyHeld meter.old (keys_of edits.entry) (edits_source edits.entry)
         (edits_made edits.entry) held.new) }
+    ensures encrypted { IfOk result
+        (λ ready. may_set_lead (made_by edits.entry) ≡ false
+        → EncryptsAt (keys_of edits.entry) ready.lines.charstrings) }
     ensures held { (s : SourceParts) → IsHeld s held.old → IsHeld s held.new }
     ensures kept { map kept_of held.new.records.glyphs.entries
         ≡ map kept_of held.old.records.glyphs.entries }

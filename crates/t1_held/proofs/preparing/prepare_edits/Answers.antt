@@ -7,7 +7,7 @@ use Rattle.t1_font.specs.Glyphs.{glyph_names}
 use Rattle.t1_font.specs.Runs.{Counts}
 use Rattle.t1_font.specs.RunCounts.{counted}
 use Rattle.t1_cache.specs.Edited.{stale}
-use Rattle.t1_charstrings.specs.Made.{made_of as made_in}
+use Rattle.t1_charstrings.specs.Made.{made_of as made_in, may_set_lead}
 use Rattle.t1_charstrings.specs.Ready.{IsReadyLines}
 use Rattle.t1_rerun.specs.Changing.{AreChangesOf}
 use Rattle.t1_rerun.proofs.Judged.{file-refused}
@@ -15,7 +15,9 @@ use Rattle.t1_rerun.proofs.Preparing.{as-self}
 use Rattle.t1_held.specs.declared.held.ReadyHeld.{ReadyHeld}
 use Rattle.t1_held.specs.Edits.{keys_of, edits_made, edits_source}
 use Rattle.t1_held.specs.Entries.{fresh_in, gone_keys}
+use Rattle.t1_held.specs.Ready.{EncryptsAt}
 use Rattle.t1_held.proofs.CommitLaws.{edits_are, made_is, right_held, runs_are, source_by}
+use Rattle.t1_held.proofs.Encrypting.{none_fresh}
 use Rattle.t1_held.proofs.HeldLaws.{counts_none, prepared_by, right_well, still_held}
 use Rattle.t1_held.proofs.preparing.prepare_edits.Goals as goal
 
@@ -143,6 +145,16 @@ returns-in-Ok-clause-ready c =
       records = c.in-Ok.ensures.ready s made of;
       lines = subst (λ m. IsReadyLines m c.prepare_lines.new.charstrings c.in_ok-lines.lines) is c.in_ok-lines.ensures.ready;
     }
+
+pub returns-in-Ok-clause-encrypted : goal.returns-in-Ok-clause-encrypted
+returns-in-Ok-clause-encrypted c = λ stays.
+    let e = c.args.edits in
+    let changes = c.in_ok-changes.changes.items in
+    let are = c.in_ok-changes.ensures c.args.held.now c.requires in
+    let is = c.in_ok-lines.ensures.edited (ap may_set_lead c.made-made.ensures ∙ stays) in
+    subst (EncryptsAt (keys_of e)) (sym is) (λ k off.
+    c.in_ok-entries.ensures.fresh k ∙ ap (λ l. fresh_in (lead c.source-source.result.now) l k) c.deref.ensures.value
+    ∙ none_fresh (lead c.source-source.result.now) changes k (are.same k ∙ off))
 
 pub returns-in-Ok-clause-held : goal.returns-in-Ok-clause-held
 returns-in-Ok-clause-held c =
