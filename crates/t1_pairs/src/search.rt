@@ -13,10 +13,10 @@ fn names_cmp(pair: &Pair, left: &[u8], right: &[u8]) -> Ordering
     ensures { result
         ≡ pair_cmp pair.now (record { left = left.now; right = right.now; value = pos 0 }) }
 {
-    pair.left
-        .as_slice()
-        .cmp(left)
-        .then(pair.right.as_slice().cmp(right))
+    match pair.left.as_slice().cmp(left) {
+        Ordering::Equal => pair.right.as_slice().cmp(right),
+        order => order,
+    }
 }
 
 impl Pairs {
