@@ -4,7 +4,7 @@ use itoa::Buffer;
 use std::alloc::{AllocError, Global};
 use std::collections::BTreeMap;
 use std::marker::Model;
-use t1_blocks::{Blocks, BlocksIter};
+use t1_buckets::{Buckets, BucketsIter};
 use t1_frac::{Bytes, Code, Refusal, next_word, number_word};
 use t1_text::{fault_on, first_line, is_name, same};
 
@@ -20,7 +20,7 @@ pub struct Pair {
 #[derive(Drop)]
 pub struct Pairs {
     alloc: Global,
-    pairs: Blocks<Pair>,
+    pairs: Buckets<Pair>,
 }
 
 impl Model for Pairs {
@@ -87,10 +87,10 @@ impl Sorted {
     }
 
     /// The pairs in printed order.
-    fn into_pairs(self, alloc: Global) -> Result<Blocks<Pair>, AllocError>
+    fn into_pairs(self, alloc: Global) -> Result<Buckets<Pair>, AllocError>
         ensures { IfOk result (λ pairs. pairs ≡ self) }
     {
-        let mut pairs = Blocks::new(alloc);
+        let mut pairs = Buckets::new(alloc);
         for ((left, right), value) in self.values {
             pairs.push(Pair {
                 left: Bytes::new(left),
@@ -271,10 +271,10 @@ impl Pair {
 }
 
 /// Copies of some pairs.
-fn copied_pairs(alloc: Global, pairs: &Blocks<Pair>) -> Result<Blocks<Pair>, AllocError>
+fn copied_pairs(alloc: Global, pairs: &Buckets<Pair>) -> Result<Buckets<Pair>, AllocError>
     ensures { IfOk result (λ copies. copies ≡ pairs.now) }
 {
-    let mut copies = Blocks::new(alloc);
+    let mut copies = Buckets::new(alloc);
     for pair in pairs.iter() {
         copies.push(pair.copied(alloc)?)?;
     }
@@ -334,14 +334,14 @@ impl Pairs {
     }
 
     /// The pairs in printed order.
-    pub fn iter(&self) -> BlocksIter<'_, Pair>
+    pub fn iter(&self) -> BucketsIter<'_, Pair>
         ensures { result ≡ self.now }
     {
         self.pairs.iter()
     }
 
     /// The pairs as they are kept.
-    pub(crate) fn blocks(&self) -> &Blocks<Pair>
+    pub(crate) fn buckets(&self) -> &Buckets<Pair>
         ensures value { result.now ≡ self.now }
         ensures kept { are_pairs result.now ≡ true }
     {

@@ -39,7 +39,7 @@ impl Pairs {
             ≡ insert self.now at
             (record { left = left.now; right = right.now; value = v })) }
     {
-        self.blocks()
+        self.buckets()
             .binary_search_by(|pair| names_cmp(pair, left, right))
     }
 }

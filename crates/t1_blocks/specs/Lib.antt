@@ -1,2 +1,0 @@
-pub mod BlockPlaces
-pub mod Blocks

@@ -1,0 +1,2 @@
+pub mod BucketPlaces
+pub mod Buckets
