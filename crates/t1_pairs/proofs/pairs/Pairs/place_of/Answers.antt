@@ -10,12 +10,12 @@ use Rattle.t1_pairs.proofs.pairs.Pairs.place_of.Goals as goal
 pub returns : goal.returns
 returns c =
     let facts = c.binary_search_by.ensures in
-    let list = c.buckets-2.result.now in
+    let list = c.buckets.result.now in
     let r = c.binary_search_by.result in
     let pair : ℤ → Pair = λ v. record { left = c.args.left.now; right = c.args.right.now; value = v } in
     let searched : (v : ℤ) → IsBinarySearchResult (λ q. pair_cmp q (pair v)) list r = λ v. facts.position (λ q. pair_cmp q (pair (pos 0))) (always_returns_same _ _ _ (λ a r f called. search rules)) in
-    rw (← c.buckets-2.ensures.value) (record {
+    rw (← c.buckets.ensures.value) (record {
       within = facts.bound;
-      found = search_found (pair (pos 0)) list c.buckets-2.ensures.kept r facts.bound (searched (pos 0));
-      put = λ v. search_put (pair v) list c.buckets-2.ensures.kept r facts.bound (searched v);
+      found = search_found (pair (pos 0)) list c.buckets.ensures.kept r facts.bound (searched (pos 0));
+      put = λ v. search_put (pair v) list c.buckets.ensures.kept r facts.bound (searched v);
     })
