@@ -33,10 +33,10 @@ pub curve_box : (a b c d : Point) → spans_box (span_of (cubic_values a.x b.x c
 curve_box a b c d =
     simp (map-map_x floor_of a b c d sixty_fourths, map-map_y floor_of a b c d sixty_fourths, map-map_x ceiling_of a b c d sixty_fourths, map-map_y ceiling_of a b c d sixty_fourths) refl
 
-int_min_assoc : (x y z : ℤ) → int_min (int_min x y) z ≡ int_min x (int_min y z)
+pub int_min_assoc : (x y z : ℤ) → int_min (int_min x y) z ≡ int_min x (int_min y z)
 int_min_assoc x y z = same_in _ _ (omega (arith, int_min_is (int_min x y) z, int_min_is x y, int_min_is x (int_min y z), int_min_is y z))
 
-int_max_assoc : (x y z : ℤ) → int_max (int_max x y) z ≡ int_max x (int_max y z)
+pub int_max_assoc : (x y z : ℤ) → int_max (int_max x y) z ≡ int_max x (int_max y z)
 int_max_assoc x y z = same_in _ _ (omega (arith, int_max_is (int_max x y) z, int_max_is x y, int_max_is x (int_max y z), int_max_is y z))
 
 fold_min : (x y : ℤ) (zs : List ℤ) → fold int_min (int_min x y) zs ≡ int_min x (fold int_min y zs)

@@ -7,7 +7,9 @@ pub mod Differences
 pub mod EndSums
 pub mod EndValues
 pub mod Ends
+pub mod Extremes
 pub mod Fonts
+pub mod Held
 pub mod Longs
 pub mod Products
 pub mod Rows

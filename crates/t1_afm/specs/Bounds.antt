@@ -4,6 +4,7 @@ use borrow.Author.Differences.{up, down}
 use Rattle.t1_frac.specs.Fraction.{Fraction}
 use Rattle.t1_afm.specs.declared.ratio.Ratio.{Ratio}
 use Rattle.t1_afm.specs.declared.ratio.WeightedPair.{WeightedPair}
+use Rattle.t1_afm.specs.declared.span.Span.{Span}
 
 -- word: the fraction is p - q or more
 pub record AtLeast (p q : ℕ) (a : Fraction) : Type 0 where
@@ -18,6 +19,11 @@ pub record IsInRange (a : Fraction) : Type 0 where
   pub above : 0 < a.den
   pub least : AtLeast 0 (2 ^ 20) a
   pub most : AtMost (2 ^ 20) 0 a
+
+-- word: the fraction is within the span
+pub record IsHeld (s : Span) (a : Fraction) : Type 0 where
+  pub least : AtLeast (up s.low) (down s.low) a
+  pub most : AtMost (up s.high) (down s.high) a
 
 -- word: a ratio, as a fraction
 abbrev pub fraction_of : Ratio → Fraction

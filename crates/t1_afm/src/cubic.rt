@@ -4,7 +4,7 @@ ghost use Rattle.std.specs.Prelude.{◌≡◌, ◌≤◌};
 ghost use Rattle.t1_frac.specs.Limits.{IsCoordinate};
 ghost use Rattle.t1_afm.specs.Points.{cubic_at};
 ghost use Rattle.t1_afm.specs.CubicValues.{cubic_values};
-ghost use Rattle.t1_afm.specs.Spans.{span_of, span_around_one};
+ghost use Rattle.t1_afm.specs.Spans.{span_of, span_around};
 ghost use Rattle.t1_afm.specs.Bounds.{IsInRange, fraction_of};
 
 use crate::common::CommonCubic;
@@ -49,31 +49,34 @@ impl Cubic {
         self.terms_at(k)
     }
 
-    /// The span around the value at k/64.
-    fn span_at(&self, k: u32) -> Span
-        requires { k ≤ 64 }
-        ensures { result
-            ≡ span_around_one
-            (cubic_at self.now.start self.now.first self.now.second self.now.end k) }
-    {
-        let value = self.value_at(k);
-        Span {
-            low: value.floor(),
-            high: value.ceil(),
-        }
-    }
-
-    /// The span around the 65 values, value by value.
+    /// The span around the 65 values, value by value. All have one denominator, so that numerators
+    /// tell which is the least and which the greatest, and two values alone are divided.
     fn sampled_span(&self) -> Span
         ensures { result
             ≡ span_of (cubic_values self.now.start self.now.first self.now.second self.now.end) }
     {
-        let mut span = self.span_at(0);
+        let mut least = self.value_at(0);
+        let mut greatest = least;
         for k in 1..65 {
-            let next = self.span_at(k);
-            span = span.around(&next);
+            let next = self.value_at(k);
+            least = least.lesser(&next);
+            greatest = greatest.greater(&next);
         }
-        span
+        let low = least.floor();
+        let high = greatest.ceil();
+        Span { low, high }
+    }
+
+    /// The span around the 65 values, over a denominator of all four points, where one is found.
+    fn common_span(&self) -> Span
+        ensures { result
+            ≡ span_of (cubic_values self.now.start self.now.first self.now.second self.now.end) }
+    {
+        let found = CommonCubic::of(&self.start, &self.first, &self.second, &self.end);
+        let Some(cubic) = found else {
+            return self.sampled_span();
+        };
+        cubic.span()
     }
 
     /// The span around the 65 values. Where the inner points reach no further than the ends,
@@ -87,19 +90,7 @@ impl Cubic {
         if ends.low <= inner.low && inner.high <= ends.high {
             return ends;
         }
-        self.sampled_span()
-    }
-
-    /// The span around the 65 values, over a denominator of all four points, where one is found.
-    fn common_span(&self) -> Span
-        ensures { result
-            ≡ span_of (cubic_values self.now.start self.now.first self.now.second self.now.end) }
-    {
-        let found = CommonCubic::of(&self.start, &self.first, &self.second, &self.end);
-        let Some(cubic) = found else {
-            return self.fraction_span();
-        };
-        cubic.span()
+        self.common_span()
     }
 
     /// The span around the 65 values.
@@ -120,6 +111,23 @@ impl Cubic {
             };
             return cubic.span();
         }
-        self.common_span()
+        self.fraction_span()
+    }
+
+    /// The span around another one and the 65 values. Where the other holds the four points, it
+    /// holds the values too.
+    pub(crate) fn span_with(&self, other: &Span) -> Span
+        ensures { result
+            ≡ span_around other.now
+            (span_of (cubic_values self.now.start self.now.first self.now.second self.now.end)) }
+    {
+        if other.holds(&self.start)
+            && other.holds(&self.first)
+            && other.holds(&self.second)
+            && other.holds(&self.end)
+        {
+            return *other;
+        }
+        other.around(&self.span())
     }
 }

@@ -1,11 +1,11 @@
 //! A glyph's box.
 
-ghost use Rattle.std.specs.Prelude.{◌≡◌, All, IfOk, IsOk};
+ghost use Rattle.std.specs.Prelude.{◌≡◌, All, IfOk, IsOk, Some};
 ghost use Rattle.t1_run.specs.Composite.{moved_outline, IsWithin};
 ghost use Rattle.t1_afm.specs.Points.{points_of};
-ghost use Rattle.t1_afm.specs.Box.{box as box_of, outline_box};
+ghost use Rattle.t1_afm.specs.Box.{box as box_of, outline_box, around, unite as unite_of};
 
-use crate::bbox::{BBox, spanned, unite};
+use crate::bbox::{BBox, spanned};
 use crate::cubic::Cubic;
 use crate::span::line_span;
 use t1_run::{Point, Segment, moved_segment};
@@ -36,6 +36,47 @@ fn segment_box(segment: &Segment) -> BBox
     }
 }
 
+/// The box around another one and a segment's points.
+#[tactic(auto, using(crate::proofs::Boxes::line_box, crate::proofs::Boxes::curve_box))]
+fn box_with(bbox: &BBox, segment: &Segment) -> BBox
+    requires { IsWithin segment.now }
+    ensures { result ≡ around bbox.now (box_of (points_of segment.now)) }
+{
+    let across = bbox.horizontal();
+    let upward = bbox.vertical();
+    match segment {
+        Segment::Line(a, b) => {
+            spanned(across.with_line(&a.x, &b.x), upward.with_line(&a.y, &b.y))
+        }
+        Segment::Curve(a, b, c, d) => {
+            let x = Cubic {
+                start: a.x,
+                first: b.x,
+                second: c.x,
+                end: d.x,
+            };
+            let y = Cubic {
+                start: a.y,
+                first: b.y,
+                second: c.y,
+                end: d.y,
+            };
+            spanned(x.span_with(&across), y.span_with(&upward))
+        }
+    }
+}
+
+/// The box of what was drawn so far, with the points of a segment.
+fn extended(extent: Option<BBox>, segment: &Segment) -> Option<BBox>
+    requires { IsWithin segment.now }
+    ensures { result ≡ unite_of extent (Some (box_of (points_of segment.now))) }
+{
+    match extent {
+        None => Some(segment_box(segment)),
+        Some(bbox) => Some(box_with(&bbox, segment)),
+    }
+}
+
 /// The box around an outline: over both ends of each line and 65 points of each curve, rounded
 /// outward; 0 0 0 0 where it has no segment. Each point is within the limits.
 pub fn bounding_box(segments: &[Segment]) -> BBox
@@ -44,8 +85,7 @@ pub fn bounding_box(segments: &[Segment]) -> BBox
 {
     let mut extent: Option<BBox> = None;
     for segment in segments {
-        let next = segment_box(segment);
-        extent = unite(extent, Some(next));
+        extent = extended(extent, segment);
     }
     extent.unwrap_or(BBox::EMPTY)
 }
@@ -61,8 +101,7 @@ pub fn measure(segments: &[Segment], offset: &Point) -> BBox
         let Ok(segment) = moved_segment(segment, offset) else {
             unreachable!()
         };
-        let next = segment_box(&segment);
-        extent = unite(extent, Some(next));
+        extent = extended(extent, &segment);
     }
     extent.unwrap_or(BBox::EMPTY)
 }

@@ -131,8 +131,27 @@ impl WeightedPair {
 }
 
 impl Ratio {
+    ghost use Rattle.std.specs.Int.{int_min, int_max};
     ghost use Rattle.t1_frac.specs.Fraction.{negated as negated_of, floor_of, ceiling_of};
     ghost use Rattle.t1_afm.specs.Bounds.{IsInRange, fraction_of};
+
+    /// The lesser of two over one denominator.
+    pub(crate) fn lesser(&self, other: &Ratio) -> Ratio
+        requires { self.now.den ≡ other.now.den }
+        ensures num { result.num ≡ int_min self.now.num other.now.num }
+        ensures den { result.den ≡ self.now.den }
+    {
+        if other.num < self.num { *other } else { *self }
+    }
+
+    /// The greater of two over one denominator.
+    pub(crate) fn greater(&self, other: &Ratio) -> Ratio
+        requires { self.now.den ≡ other.now.den }
+        ensures num { result.num ≡ int_max self.now.num other.now.num }
+        ensures den { result.den ≡ self.now.den }
+    {
+        if self.num < other.num { *other } else { *self }
+    }
 
     fn floor_wide(&self) -> i128
         requires { IsInRange (fraction_of self.now) }

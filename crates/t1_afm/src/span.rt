@@ -1,10 +1,11 @@
 //! The whole numbers around coordinates of one axis.
 
-ghost use Rattle.std.specs.Prelude.{◌≡◌, ◌≤◌, ◌^◌, [], ◌∷◌};
+ghost use Rattle.std.specs.Prelude.{◌≡◌, ◌≤◌, ◌^◌, ◌*ℤ◌, ◌↔◌, IsTrue, [], ◌∷◌};
 ghost use Rattle.std.specs.Int.RustNames.{unsigned_abs};
 ghost use Rattle.t1_frac.specs.Fraction.{whole, floor_of};
 ghost use Rattle.t1_frac.specs.Limits.{IsCoordinate};
 ghost use Rattle.t1_afm.specs.Spans.{span_of, span_around, span_around_one};
+ghost use Rattle.t1_afm.specs.Bounds.{IsHeld};
 
 use t1_frac::Frac;
 
@@ -57,6 +58,48 @@ pub(crate) fn coordinate_span(a: &Frac) -> Span
     }
     let low = rounded_down(a);
     Span { low, high: low + 1 }
+}
+
+/// A bound times a denominator.
+fn scaled(bound: i32, den: i64) -> i64
+    requires { unsigned_abs den ≤ 2 ^ 20 }
+    ensures { result ≡ bound *ℤ den }
+{
+    i64::from(bound) * den
+}
+
+impl Span {
+    /// Whether a coordinate is within it. No division is made.
+    #[inline(always)]
+    pub(crate) fn holds(&self, a: &Frac) -> bool
+        requires { IsCoordinate a.now }
+        ensures { IsTrue result ↔ IsHeld self.now a.now }
+    {
+        let den = a.den();
+        scaled(self.low, den) <= a.num() && a.num() <= scaled(self.high, den)
+    }
+
+    /// The span around this one and a coordinate.
+    #[inline(always)]
+    fn with(&self, a: &Frac) -> Span
+        requires { IsCoordinate a.now }
+        ensures { result ≡ span_around self.now (span_around_one a.now) }
+    {
+        if self.holds(a) {
+            return *self;
+        }
+        self.around(&coordinate_span(a))
+    }
+
+    /// The span around this one and two coordinates. Most points of an outline reach no further
+    /// than those before them.
+    pub(crate) fn with_line(&self, a: &Frac, b: &Frac) -> Span
+        requires a { IsCoordinate a.now }
+        requires b { IsCoordinate b.now }
+        ensures { result ≡ span_around self.now (span_of (a.now ∷ b.now ∷ [])) }
+    {
+        self.with(a).with(b)
+    }
 }
 
 /// The span around two coordinates.

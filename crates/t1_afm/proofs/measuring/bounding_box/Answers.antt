@@ -8,8 +8,8 @@ use Rattle.t1_afm.specs.Box.{unite}
 use Rattle.t1_afm.proofs.Boxes.{Rest, Rest-unmoved, outline_is}
 use Rattle.t1_afm.proofs.measuring.bounding_box.Goals as goal
 
-pub segment_box-next-requires : goal.segment_box-next-requires
-segment_box-next-requires c =
+pub extended-extent-requires : goal.extended-extent-requires
+extended-extent-requires c =
     let i = c.loop-segment.segment-index in
     let inside : i < length c.args.segments.now = omega arith in
     subst IsWithin (sym c.segment-item.is) (All-get_or IsWithin c.args.segments.now i c.segment-item.result inside c.requires)
@@ -23,5 +23,5 @@ loop-segment-preserved c =
     let split = outline_is segments i item (omega arith) c.segment-item.is in
     let rest = subst (λ (l : List Segment). Rest (Ok l) found (Ok segments)) split c.loop-segment.invariant in
     let next = Rest-unmoved item (drop (i + 1) segments) found segments rest in
-    let is = c.unite-extent.ensures ∙ ap (λ (b : BBox). unite found (Some b)) c.segment_box-next.ensures in
+    let is = c.extended-extent.ensures in
     subst (λ (x : Option BBox). Rest (Ok (drop (i + 1) segments)) x (Ok segments)) (sym is) next

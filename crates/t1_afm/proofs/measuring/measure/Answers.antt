@@ -18,5 +18,5 @@ loop-segment-preserved c =
     let split = outline_is segments i item (omega arith) c.segment-item.is in
     let rest = subst (λ (l : List Segment). Rest (moved_outline by l) found whole) split c.loop-segment.invariant in
     let next = Rest-step by item c.in-Ok.segment (drop (i + 1) segments) found whole (sym c.moved_segment.ensures.moved ∙ c.in-Ok.is) rest in
-    let is = c.unite-extent.ensures ∙ ap (λ (b : BBox). unite found (Some b)) c.segment_box-next.ensures in
+    let is = c.extended-extent.ensures in
     subst (λ (x : Option BBox). Rest (moved_outline by (drop (i + 1) segments)) x whole) (sym is) next
