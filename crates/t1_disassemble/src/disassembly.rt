@@ -289,7 +289,7 @@ fn begins_at_once(bytes: &[u8]) -> bool
 
 /// Whether the encrypted part is that of the segments, all of it, in binary.
 #[tactic(auto, using(crate::proofs::BinaryLaws::spaces_gone))]
-pub(crate) fn is_binary(after: &[u8], coded: &[u8]) -> bool
+fn is_binary(after: &[u8], coded: &[u8]) -> bool
     ensures place { result ≡ true → past_spaces (after.now ++ coded.now) ≡ coded.now }
     ensures binary { result ≡ true → is_hexadecimal coded.now ≡ false }
 {

@@ -1,5 +1,6 @@
 //! The source of a font's file, kept with its charstrings as bytes until it is written.
-ghost use Rattle.std.specs.Prelude.{◌≡◌, ◌+◌, ◌-◌, ◌<◌, ◌≤◌, ◌^◌, [], ◌++◌, true, length, OnOk};
+ghost use Rattle.std.specs.Prelude.{◌≡◌, ◌+◌, ◌-◌, ◌<◌, ◌≤◌, ◌^◌, [], ◌++◌, true, length, drop};
+ghost use Rattle.std.specs.Prelude.{OnOk, IfOk};
 ghost use Rattle.t1_text.specs.Lines.{begins_with, lines, joined};
 ghost use Rattle.t1_code.specs.Writing.{Puts, Writes, outlet};
 ghost use Rattle.t1_code.specs.Pfb.{marker};
@@ -9,15 +10,17 @@ ghost use Rattle.t1_disassemble.specs.Disassembly.{source_of, disassembled};
 ghost use Rattle.t1_disassemble.specs.Front.{after_eexec, past_spaces};
 ghost use Rattle.t1_disassemble.specs.Lent.{lent_parts};
 ghost use Rattle.t1_disassemble.specs.Outcome.{GivesFont};
-ghost use Rattle.t1_disassemble.specs.SourceOnto.{plain_onto, source_onto, binary_onto};
+ghost use Rattle.t1_disassemble.specs.SourceOnto.{plain_onto, source_onto, counted_private};
+ghost use Rattle.t1_disassemble.specs.SourceOnto.{segmented_source, flat_source};
 
-use crate::cipher::decipher_private;
+use crate::cipher::{decipher_private, encipher_private};
+use crate::digits::is_hexadecimal;
 use crate::disassembly::{
-    EEXEC_LEAD, HEAD_LEN, HEADS_LEN, coded_place, is_binary, joined_bytes, past_lead, plain_bytes,
+    EEXEC_LEAD, HEAD_LEN, HEADS_LEN, coded_place, joined_bytes, past_lead, plain_bytes,
     push_checked, push_lines_of, tail_after,
 };
 use crate::fault::{FontCode, FontRefusal};
-use crate::front::{after_eexec, past, past_spaces};
+use crate::front::{after_eexec, past, past_spaces, space_len};
 use crate::kinds::check_kind;
 use crate::known_word::{KnownWord, known_words};
 use crate::lines::add_lines;
@@ -113,9 +116,13 @@ fn packed_source(alloc: Global, parts: &LentParts, coded: &[u8]) -> Result<Packe
     packed_plain(alloc, parts, coded, past_lead(&bytes))
 }
 
-/// The lines of a private text whose file has segments, and those of the tail.
-fn packed_segmented(alloc: Global, plain: &[u8], tail: &[u8]) -> Result<Packed, FontRefusal>
-    ensures { GivesFont (λ text. text) result (binary_onto [] tail.now plain.now) }
+/// The lines of a private text, and how many of its bytes hold them.
+fn packed_private(alloc: Global, plain: &[u8]) -> Result<(Packed, usize), FontRefusal>
+    ensures value { GivesFont
+        (λ found. (found.0, found.1))
+        result
+        (counted_private plain.now) }
+    ensures within { IfOk result (λ found. found.1 ≤ length plain.now) }
 {
     let lead = leading_bytes(plain)?;
     let settings = Settings {
@@ -123,10 +130,9 @@ fn packed_segmented(alloc: Global, plain: &[u8], tail: &[u8]) -> Result<Packed, 
         lead,
     };
     let mut text = Packed::new(alloc);
-    push_private(alloc, &mut text, &settings, plain)?;
+    let rest = push_private(alloc, &mut text, &settings, plain)?;
     text.check_sections()?;
-    add_tail(alloc, &mut text, tail)?;
-    Ok(text)
+    Ok((text, plain.len() - rest.len()))
 }
 
 /// The lines of an encrypted part in binary whose file has segments, and those of the tail. The
@@ -135,33 +141,73 @@ fn packed_binary(alloc: Global, coded: &mut [u8], tail: &[u8]) -> Result<Packed,
     ensures { GivesFont
         (λ text. text)
         result
-        (binary_onto [] tail.now (decrypted_private coded.old)) }
+        (segmented_source tail.now (decrypted_private coded.old)) }
 {
     decipher_private(coded);
-    packed_segmented(alloc, past_lead(coded), tail)
+    let (text, _count) = packed_private(alloc, past_lead(coded))?;
+    let mut text = text;
+    add_tail(alloc, &mut text, tail)?;
+    Ok(text)
 }
 
-/// The lines of an encrypted part that begins after the eexec line of a file without segments, and
-/// those of the tail.
-fn packed_on_line(
+/// The lines of an encrypted part in binary whose file has no segments, and those of what stands
+/// after it. The plain bytes take the place of the encrypted ones until the private text is read.
+fn packed_flat(alloc: Global, coded: &mut [u8]) -> Result<Packed, FontRefusal>
+    ensures { GivesFont (λ text. text) result (flat_source coded.old) }
+{
+    decipher_private(coded);
+    let (text, count) = packed_private(alloc, past_lead(coded))?;
+    encipher_private(coded);
+    let mut text = text;
+    add_tail(alloc, &mut text, past(coded, EEXEC_LEAD + count))?;
+    Ok(text)
+}
+
+/// The lines of an encrypted part that stands after so many bytes of a file without segments, and
+/// those of what stands after it. Of binary bytes it takes no copy.
+
+fn packed_alone(
     alloc: Global,
-    clear: &[u8],
-    after: &[u8],
+    clear: &mut [u8],
+    len: usize,
     tail: &[u8],
 ) -> Result<Packed, FontRefusal>
+    requires { len ≤ length clear.now }
     ensures { GivesFont
         (λ text. text)
         result
         (source_onto []
-        (record { clear = clear.now; coded = []; tail = tail.now })
-        (past_spaces after.now)) }
+        (record { clear = clear.old; coded = []; tail = tail.now })
+        (past_spaces (drop len clear.old))) }
 {
-    let parts = LentParts {
-        clear,
-        coded: after.split_at(0).0,
-        tail,
-    };
-    packed_source(alloc, &parts, past_spaces(after))
+    let place = len + space_len(past(clear, len));
+    let coded = past(clear, place);
+    if is_hexadecimal(coded) {
+        let parts = LentParts {
+            clear,
+            coded: coded.split_at(0).0,
+            tail,
+        };
+        return packed_source(alloc, &parts, coded);
+    }
+    packed_flat(alloc, clear.split_at_mut(place).1)
+}
+
+/// The lines of an encrypted part of a file with segments, which begins after blanks, and those of
+/// the tail. Of binary bytes it takes no copy.
+fn packed_behind(alloc: Global, parts: &LentParts, bytes: &mut [u8]) -> Result<Packed, FontRefusal>
+    requires { 0 < length parts.now.coded.now }
+    ensures { GivesFont
+        (λ text. text)
+        result
+        (source_onto [] (lent_parts parts.now) (past_spaces bytes.old)) }
+{
+    let coded = past_spaces(bytes);
+    if is_hexadecimal(coded) {
+        return packed_source(alloc, parts, coded);
+    }
+    let place = space_len(bytes);
+    packed_binary(alloc, bytes.split_at_mut(place).1, parts.tail)
 }
 
 /// The lines of an encrypted part whose beginning stands after the eexec line, and those of the
@@ -173,6 +219,7 @@ fn packed_joined(
     coded: &[u8],
     tail: &[u8],
 ) -> Result<Packed, FontRefusal>
+    requires { 0 < length coded.now }
     ensures { GivesFont
         (λ text. text)
         result
@@ -181,59 +228,89 @@ fn packed_joined(
         (past_spaces (after.now ++ coded.now))) }
 {
     let bytes = joined_bytes(alloc, after, coded)?;
+    let mut bytes = bytes;
     let parts = LentParts { clear, coded, tail };
-    packed_source(alloc, &parts, past_spaces(&bytes))
+    packed_behind(alloc, &parts, &mut bytes)
 }
 
-/// The lines of an encrypted part, which begins after the eexec line or with its own segments, and
-/// those of the tail. Of binary segments it takes no copy.
-#[tactic(auto, using(crate::proofs::BinaryLaws::coded_on_line))]
-fn packed_coded(
+/// The lines of an encrypted part that begins with its own segments, and those of the tail. Of
+/// binary bytes it takes no copy.
+fn packed_in_segments(
     alloc: Global,
     clear: &[u8],
-    after: &[u8],
     coded: &mut [u8],
     tail: &[u8],
 ) -> Result<Packed, FontRefusal>
+    requires { 0 < length coded.now }
     ensures { GivesFont
         (λ text. text)
         result
         (source_onto []
         (record { clear = clear.now; coded = coded.old; tail = tail.now })
-        (past_spaces (after.now ++ coded.old))) }
+        (past_spaces coded.old)) }
+{
+    let place = space_len(coded);
+    let front = past(coded, place);
+    if is_hexadecimal(front) {
+        let parts = LentParts { clear, coded, tail };
+        return packed_source(alloc, &parts, front);
+    }
+    packed_binary(alloc, coded.split_at_mut(place).1, tail)
+}
+
+/// The lines of an encrypted part, which begins after so many bytes of the clear text or with its
+/// own segments, and those of the tail.
+#[tactic(auto, using(crate::proofs::BinaryLaws::coded_on_line))]
+fn packed_coded(
+    alloc: Global,
+    clear: &mut [u8],
+    len: usize,
+    coded: &mut [u8],
+    tail: &[u8],
+) -> Result<Packed, FontRefusal>
+    requires { len ≤ length clear.now }
+    ensures { GivesFont
+        (λ text. text)
+        result
+        (source_onto []
+        (record { clear = clear.old; coded = coded.old; tail = tail.now })
+        (past_spaces (drop len clear.old ++ coded.old))) }
 {
     if coded.is_empty() {
-        return packed_on_line(alloc, clear, after, tail);
+        return packed_alone(alloc, clear, len, tail);
     }
-    if is_binary(after, coded) {
-        return packed_binary(alloc, coded, tail);
+    let after = past(clear, len);
+    if past_spaces(after).is_empty() {
+        return packed_in_segments(alloc, clear, coded, tail);
     }
     packed_joined(alloc, clear, after, coded, tail)
 }
 
-/// The source of the parts of a file. Of the encrypted part nothing is known afterwards.
+/// The source of the parts of a file. Of the clear text and the encrypted part nothing is known
+/// afterwards.
 #[tactic(auto, using(crate::proofs::Sources::source_same))]
 fn source_of_parts(
     alloc: Global,
-    clear: &[u8],
+    clear: &mut [u8],
     coded: &mut [u8],
     tail: &[u8],
 ) -> Result<FontSource, FontRefusal>
     ensures { GivesFont
         (λ text. text)
         result
-        (source_of (record { clear = clear.now; coded = coded.old; tail = tail.now })
-        (after_eexec clear.now)) }
+        (source_of (record { clear = clear.old; coded = coded.old; tail = tail.now })
+        (after_eexec clear.old)) }
 {
     let Some(after) = after_eexec(clear) else {
         check_kind(clear)?;
         return Err(FontRefusal::from(FontCode::D1));
     };
-    let clear_lines = clear.split_at(clear.len() - after.len()).0;
+    let len = clear.len() - after.len();
+    let clear_lines = clear.split_at(len).0;
     check_kind(clear_lines)?;
     let mut front = Vec::new(alloc);
     push_lines_of(&mut front, clear_lines)?;
-    let lines = packed_coded(alloc, clear, after, coded, tail)?;
+    let lines = packed_coded(alloc, clear, len, coded, tail)?;
     let known = known_words(alloc)?;
     Ok(FontSource {
         front,
@@ -242,37 +319,41 @@ fn source_of_parts(
     })
 }
 
-/// The source of a file with segments.
+/// The source of a file with segments, whose memory is given back when they are joined.
 #[tactic(auto, unfolding(crate::specs::Disassembly::disassembled, crate::specs::SegmentsRead::font_parts))]
-fn source_of_segments(alloc: Global, file: &[u8]) -> Result<FontSource, FontRefusal>
-    requires { begins_with marker file.now ≡ true }
-    ensures { GivesFont (λ text. text) result (disassembled file.now) }
+fn source_of_segments(alloc: Global, file: Vec<u8>) -> Result<FontSource, FontRefusal>
+    requires { begins_with marker file.items ≡ true }
+    ensures { GivesFont (λ text. text) result (disassembled file.items) }
 {
-    let Parts { clear, coded, tail } = segmented_parts(alloc, file)?;
+    let Parts { clear, coded, tail } = segmented_parts(alloc, &file)?;
+    drop(file);
+    let mut clear = clear;
     let mut coded = coded;
-    source_of_parts(alloc, &clear, &mut coded, &tail)
+    source_of_parts(alloc, &mut clear, &mut coded, &tail)
 }
 
-/// The source of a font's file that stays as it is.
+/// The source of a font's file, of whatever segments.
 #[tactic(auto, unfolding(crate::specs::Disassembly::disassembled, crate::specs::SegmentsRead::font_parts))]
-fn source_of_file(alloc: Global, file: &[u8]) -> Result<FontSource, FontRefusal>
-    ensures { GivesFont (λ text. text) result (disassembled file.now) }
+fn source_of_file(alloc: Global, file: Vec<u8>) -> Result<FontSource, FontRefusal>
+    ensures { GivesFont (λ text. text) result (disassembled file.items) }
 {
-    if has_segments(file) {
+    if has_segments(&file) {
         return source_of_segments(alloc, file);
     }
+    let mut file = file;
     let mut none = Vec::new(alloc);
-    source_of_parts(alloc, file, &mut none, file.split_at(0).0)
+    source_of_parts(alloc, &mut file, &mut none, b"")
 }
 
 /// The source of a font's file, as `disassemble` gives it, in less memory than its text has: about
-/// that of the file. Of a file whose second segment alone is binary it takes no copy of the
-/// encrypted part. Of the file nothing is known afterwards.
+/// that of the file, which is given back. Of the encrypted part it takes no copy where it is binary
+/// and begins with its own segments, or the file has none.
 #[tactic(auto, unfolding(crate::specs::Disassembly::disassembled, crate::specs::SegmentsRead::font_parts))]
-pub fn read_font(alloc: Global, file: &mut [u8]) -> Result<FontSource, FontRefusal>
-    ensures { GivesFont (λ text. text) result (disassembled file.old) }
+pub fn read_font(alloc: Global, file: Vec<u8>) -> Result<FontSource, FontRefusal>
+    ensures { GivesFont (λ text. text) result (disassembled file.items) }
 {
-    let Some((text_len, binary_len)) = front_lens(file) else {
+    let mut file = file;
+    let Some((text_len, binary_len)) = front_lens(&file) else {
         return source_of_file(alloc, file);
     };
     let behind = file.split_at(HEADS_LEN + text_len + binary_len).1;
@@ -280,6 +361,6 @@ pub fn read_font(alloc: Global, file: &mut [u8]) -> Result<FontSource, FontRefus
         return source_of_file(alloc, file);
     };
     let (front, back) = file.split_at_mut(HEADS_LEN + text_len);
-    let clear = past(front.split_at(HEAD_LEN + text_len).0, HEAD_LEN);
+    let clear = front.split_at_mut(HEAD_LEN).1.split_at_mut(text_len).0;
     source_of_parts(alloc, clear, back.split_at_mut(binary_len).0, &tail)
 }

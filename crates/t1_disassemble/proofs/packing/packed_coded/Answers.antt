@@ -1,17 +1,16 @@
-use Rattle.std.proofs.Common.{◌≡◌, false, ◌<◌, [], ◌++◌, List, ℕ, Result, length, sym, subst, rules}
-use Rattle.t1_disassemble.specs.declared.fault.FontFault.{FontFault}
-use Rattle.t1_disassemble.specs.Digits.{is_hexadecimal}
+use Rattle.std.proofs.Common.{◌≡◌, [], List, ℕ, drop, length, sym, ap, ◌∙◌, subst, rules}
 use Rattle.t1_disassemble.specs.Front.{past_spaces}
 use Rattle.t1_disassemble.specs.Outcome.{GivesFont}
-use Rattle.t1_disassemble.proofs.BinaryLaws.{coded_in_segments}
+use Rattle.t1_disassemble.specs.SegmentsRead.{FontParts}
+use Rattle.t1_disassemble.specs.SourceOnto.{source_onto}
+use Rattle.t1_disassemble.proofs.BinaryLaws.{spaces_gone}
 use Rattle.t1_disassemble.proofs.packing.packed_coded.Goals as goal
 
-pub returns-then-is_binary : goal.returns-then-is_binary
-returns-then-is_binary c =
-    let after = c.args.after.now in
+pub returns-then-is_empty-2 : goal.returns-then-is_empty-2
+returns-then-is_empty-2 c =
     let coded = c.args.coded.now in
-    let place : past_spaces (after ++ coded) ≡ coded = search rules in
-    let binary : is_hexadecimal coded ≡ false = search rules in
-    let some : 0 < length coded = search rules in
-    let same = coded_in_segments [] c.args.clear.now after coded c.args.tail.now place binary some in
-    subst (λ (g : Result (List ℕ) FontFault). GivesFont (λ text. text) c.packed_binary.result g) (sym same) c.packed_binary.ensures
+    let after = drop c.args.len c.args.clear.now in
+    let parts : FontParts = record { clear = c.args.clear.now; coded = coded; tail = c.args.tail.now } in
+    let empty : length c.past_spaces.result.now ≡ 0 = search rules in
+    let none : length (past_spaces after) ≡ 0 = ap length (sym (c.past_spaces.ensures ∙ ap past_spaces c.past-after.ensures)) ∙ empty in
+    subst (λ (l : List ℕ). GivesFont (λ text. text) c.packed_in_segments.result (source_onto [] parts l)) (sym (spaces_gone after coded none)) c.packed_in_segments.ensures
