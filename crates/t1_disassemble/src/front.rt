@@ -6,8 +6,8 @@ ghost use Rattle.t1_parts.specs.Parts.{is_eexec};
 ghost use Rattle.t1_disassemble.specs.Front.{line_len, front_line, past_line, after_eexec_line};
 ghost use Rattle.t1_disassemble.specs.Front.{after_eexec_words, after_eexec, is_space, past_spaces};
 
-use crate::settings::text_place;
 use memchr::memchr2;
+use t1_parts::text_place;
 use t1_text::{cut_line, trimmed};
 
 /// How many bytes `currentfile eexec` has.

@@ -11,8 +11,9 @@ ghost use Rattle.t1_disassemble.specs.Kinds.{has_second};
 ghost use Rattle.t1_disassemble.specs.Kinds.{single_sections};
 
 use crate::fault::{FontCode, FontFault, FontPlace};
-use crate::settings::{is_glyphs_line, is_subrs_line, text_place};
+use crate::settings::{is_glyphs_line, is_subrs_line};
 use memchr::memchr;
+use t1_parts::text_place;
 use t1_text::{first_line, last_line_start, next_place};
 
 /// Bytes that hold a text are refused where it first stands.

@@ -10,7 +10,7 @@ use crate::parts::holds;
 use t1_text::{name_of_token, next_place};
 
 /// Where a text first stands on a line, or the line's length.
-fn text_place(text: &[u8], line: &[u8]) -> usize
+pub fn text_place(text: &[u8], line: &[u8]) -> usize
     ensures within { result ≤ length line.now }
     ensures value { result ≡ text_place text.now line.now }
 {
@@ -58,7 +58,7 @@ fn last_name(end: usize, line: &[u8]) -> Option<&[u8]>
 }
 
 /// The operator that a line with `string currentfile` defines.
-fn operator_on(line: &[u8]) -> Option<&[u8]>
+pub fn operator_on(line: &[u8]) -> Option<&[u8]>
     requires { length line.now < 2 ^ 63 }
     ensures { option_map (λ name. name.now) result ≡ operator_on line.now }
 {

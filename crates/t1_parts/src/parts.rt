@@ -15,7 +15,7 @@ use t1_frac::{Bytes, Code, Fault};
 use t1_text::{first_line, last_line_start, trimmed};
 
 /// Whether a line, trimmed, ends in this text.
-fn ends_in(text: &[u8], line: &[u8]) -> bool
+pub fn ends_in(text: &[u8], line: &[u8]) -> bool
     ensures { result ≡ ends_in text.now line.now }
 {
     trimmed(line).ends_with(text)
