@@ -58,7 +58,8 @@ fn insert_before<T: Drop>(
     requires { at < length (buckets_joined buckets.old.items) }
     ensures ok { OnOk result
         (buckets_joined buckets.new.items ≡ insert (buckets_joined buckets.old.items) at element) }
-    ensures err { OnErr result (buckets_joined buckets.new.items ≡ buckets_joined buckets.old.items) }
+    ensures err { OnErr result
+        (buckets_joined buckets.new.items ≡ buckets_joined buckets.old.items) }
 {
     let (index, offset) = place_with_room(buckets, at)?;
     buckets[index].insert(offset, element)
@@ -68,7 +69,8 @@ fn insert_before<T: Drop>(
 fn push<T: Drop>(alloc: Global, buckets: &mut Vec<Bucket<T>>, element: T) -> Result<(), AllocError>
     ensures ok { OnOk result
         (buckets_joined buckets.new.items ≡ buckets_joined buckets.old.items ++ element ∷ []) }
-    ensures err { OnErr result (buckets_joined buckets.new.items ≡ buckets_joined buckets.old.items) }
+    ensures err { OnErr result
+        (buckets_joined buckets.new.items ≡ buckets_joined buckets.old.items) }
 {
     let Some(last) = last_with_room(buckets.as_slice()) else {
         let bucket = Bucket::one(alloc, element)?;
@@ -90,7 +92,8 @@ pub(crate) fn insert<T: Drop>(
     requires within { at ≤ len }
     ensures ok { OnOk result
         (buckets_joined buckets.new.items ≡ insert (buckets_joined buckets.old.items) at element) }
-    ensures err { OnErr result (buckets_joined buckets.new.items ≡ buckets_joined buckets.old.items) }
+    ensures err { OnErr result
+        (buckets_joined buckets.new.items ≡ buckets_joined buckets.old.items) }
 {
     if at == len {
         return push(alloc, buckets, element);

@@ -1,7 +1,7 @@
 //! A long list that is changed in its midst.
 //!
-//! [`Buckets`] is seen as one list. In memory its elements stand in buckets of some hundreds, so that
-//! one is put in or taken out by moving those of its bucket alone.
+//! [`Buckets`] is seen as one list. In memory its elements stand in buckets of some hundreds, so
+//! that one is put in or taken out by moving those of its bucket alone.
 //!
 //! All of it is for the crates above.
 #![tactic(auto)]

@@ -2,6 +2,8 @@
 use Rattle.std.proofs.Common.{◌≡◌, ℕ, Bool, true, false, ◌&&◌, ◌+◌, ◌-◌, ◌<◌, if◌then◌else◌, List, [], ◌∷◌, ◌++◌, length, drop, Result, Ok, Err, refl, sym, ap, ◌∙◌, append-nil, inl, inr, arith}
 use Rattle.std.proofs.Math.Numerals.{one-add}
 use Rattle.std.proofs.lemmas.Bool.{cases_Bool}
+use Rattle.std.proofs.lemmas.List.{drop-drop}
+use Rattle.std.specs.List.{prefix_len}
 use Rattle.std.specs.Prelude.{nat_lt}
 use Rattle.t1_frac.specs.Outcome.{◌>>=◌}
 use Rattle.t1_text.specs.Lines.{lines, joined}
@@ -12,14 +14,14 @@ use Rattle.t1_disassemble.specs.declared.fault.FontPlace.TheVariants.{Nowhere, B
 use Rattle.t1_disassemble.specs.CutDigits.{is_early, is_cut, with_digits}
 use Rattle.t1_disassemble.specs.Decipher.{decrypted_private}
 use Rattle.t1_disassemble.specs.Digits.{is_hexadecimal, digits_len}
-use Rattle.t1_disassemble.specs.Disassembly.{coded_place, tail_after}
+use Rattle.t1_disassemble.specs.Disassembly.{coded_place, after_coded, tail_after}
 use Rattle.t1_disassemble.specs.Front.{is_space, past_spaces}
 use Rattle.t1_disassemble.specs.Kinds.{single_sections}
 use Rattle.t1_disassemble.specs.Outcome.{font_fault_at, font_reported_at}
 use Rattle.t1_disassemble.specs.PiecesOnto.{private_onto}
 use Rattle.t1_disassemble.specs.SegmentsRead.{FontParts}
 use Rattle.t1_disassemble.specs.Settings.{reading_operator, leading_bytes}
-use Rattle.t1_disassemble.specs.SourceOnto.{plain_onto, source_onto, binary_onto}
+use Rattle.t1_disassemble.specs.SourceOnto.{plain_onto, source_onto, binary_onto, counted_private, segmented_source, flat_source}
 use Rattle.t1_disassemble.proofs.WholeLaws.{unchanged, tail_again}
 
 -- ---- where the encrypted bytes begin
@@ -36,6 +38,9 @@ spaces_gone (c ∷ after) coded h = elim (cases_Bool (is_space c)) [
   | inl t ↦ space_front c (after ++ coded) t ∙ spaces_gone after coded (ap length (sym (space_front c after t)) ∙ h)
   | inr f ↦ (let e : length (c ∷ after) ≡ 0 = ap length (sym (word_front c after f)) ∙ h in absurd (omega (arith, e)))
 ]
+
+pub spaces_behind : (len : ℕ) (clear : List ℕ) → drop (len + prefix_len is_space (drop len clear)) clear ≡ past_spaces (drop len clear)
+spaces_behind len clear = sym (drop-drop (prefix_len is_space (drop len clear)) len clear)
 
 -- ---- no digits among which another byte could stand
 
@@ -85,3 +90,55 @@ pub coded_on_line : (text clear after coded tail : List ℕ) → length coded �
     → source_onto text (record { clear = clear; coded = coded; tail = tail }) (past_spaces (after ++ coded)) ≡ source_onto text (record { clear = clear; coded = []; tail = tail }) (past_spaces after)
 coded_on_line text clear after [] tail none = ap (λ l. source_onto text (record { clear = clear; coded = []; tail = tail }) (past_spaces l)) (append-nil after)
 coded_on_line text clear after (c ∷ coded) tail none = absurd (omega (arith, none))
+
+-- ---- the same, by the lines and the count of the private text
+
+then_then : {X Y Z : Type 0} (read : Result X FontFault) (f : X → Result Y FontFault) (g : Y → Result Z FontFault) → ((read >>= f) >>= g) ≡ (read >>= λ x. f x >>= g)
+then_then (Ok x) f g = refl
+then_then (Err fault) f g = refl
+
+-- what is made of both, with the tail that stands behind so many bytes
+abbrev counted_tail : (ℕ → List ℕ) → List ℕ × ℕ → Result (List ℕ) FontFault
+counted_tail tail found = Ok (found.0 ++ joined (tail_of (lines (tail found.1))))
+
+counted_then : (plain : List ℕ) (tail : ℕ → List ℕ)
+    → (font_reported_at Nowhere (leading_bytes (lines plain)) >>= λ lead. private_onto (reading_operator (lines plain)) lead [] false plain >>= λ private. with_tail [] (tail (length plain - length private.1)) private)
+    ≡ (counted_private plain >>= counted_tail tail)
+counted_then plain tail =
+    let read = λ (lead : ℕ). private_onto (reading_operator (lines plain)) lead [] false plain in
+    let single = λ (private : List ℕ × List ℕ). single_sections private.0 >>= λ single. Ok (private.0, length plain - length private.1) in
+    sym (then_then (font_reported_at Nowhere (leading_bytes (lines plain))) (λ lead. read lead >>= single) (counted_tail tail)
+    ∙ same_after (font_reported_at Nowhere (leading_bytes (lines plain))) (λ lead. (read lead >>= single) >>= counted_tail tail)
+    (λ lead. read lead >>= λ private. with_tail [] (tail (length plain - length private.1)) private)
+    (λ lead. then_then (read lead) single (counted_tail tail)
+    ∙ same_after (read lead) (λ private. single private >>= counted_tail tail) (λ private. with_tail [] (tail (length plain - length private.1)) private)
+    (λ private. then_then (single_sections private.0) (λ single. Ok (private.0, length plain - length private.1)) (counted_tail tail))))
+
+segmented_same : (tail plain : List ℕ) → binary_onto [] tail plain ≡ segmented_source tail plain
+segmented_same tail plain = counted_then plain (λ count. tail)
+
+-- in segments
+pub packed_segments : (clear segments tail coded : List ℕ) → is_hexadecimal coded ≡ false → 0 < length segments
+    → source_onto [] (record { clear = clear; coded = segments; tail = tail }) coded ≡ segmented_source tail (decrypted_private coded)
+packed_segments clear segments tail coded off some = binary_same [] clear segments tail coded off some ∙ segmented_same tail (decrypted_private coded)
+
+-- without segments
+behind_binary : (coded : List ℕ) (count : ℕ) → is_hexadecimal coded ≡ false → after_coded coded count ≡ drop count coded
+behind_binary coded count off = rw off refl
+
+pub flat_same : (clear tail coded : List ℕ) → is_hexadecimal coded ≡ false → source_onto [] (record { clear = clear; coded = []; tail = tail }) coded ≡ flat_source coded
+flat_same clear tail coded off =
+    let parts : FontParts = record { clear = clear; coded = []; tail = tail } in
+    let plain = decrypted_private coded in
+    let read = λ (lead : ℕ). private_onto (reading_operator (lines plain)) lead [] false plain in
+    let left = λ (private : List ℕ × List ℕ). tail_after parts coded (4 + (length plain - length private.1)) in
+    let behind = λ (private : List ℕ × List ℕ). drop (4 + (length plain - length private.1)) coded in
+    ap (λ (b : List ℕ). plain_onto [] parts coded (decrypted_private b)) (unchanged coded off)
+    ∙ same_after (font_reported_at Nowhere (leading_bytes (lines plain)))
+    (λ lead. with_digits (coded_place parts coded) coded (read lead) >>= λ private. with_tail [] (left private) private)
+    (λ lead. read lead >>= λ private. with_tail [] (behind private) private)
+    (λ lead.
+    ap (λ (r : Result (List ℕ × List ℕ) FontFault). r >>= λ private. with_tail [] (left private) private) (digits_none (coded_place parts coded) coded (read lead) off)
+    ∙ same_after (read lead) (λ private. with_tail [] (left private) private) (λ private. with_tail [] (behind private) private)
+    (λ private. ap (λ (t : List ℕ). with_tail [] t private) (behind_binary coded (4 + (length plain - length private.1)) off)))
+    ∙ counted_then plain (λ count. drop (4 + count) coded)

@@ -16,6 +16,11 @@ dropped_once n bytes =
     let gone : length bytes - length (drop n bytes) ≡ min n (length bytes) = omega (arith, length-drop n bytes) in
     ap (λ k. drop k bytes) gone ∙ drop_min n bytes
 
+-- what is left is the end of it
+pub left_suffix : (bytes rest : List ℕ) → IsLeft bytes rest → rest ≡ drop (length bytes - length rest) bytes
+left_suffix bytes rest h =
+    h.1 ∙ sym (dropped_once h.0 bytes) ∙ ap (λ (l : List ℕ). drop (length bytes - length l) bytes) (sym h.1)
+
 -- something is left of what is left
 pub left_twice : (bytes middle rest : List ℕ) → IsLeft bytes middle → IsLeft middle rest → IsLeft bytes rest
 left_twice bytes middle rest g h = (g.0 + h.0, h.1 ∙ ap (λ (l : List ℕ). drop h.0 l) g.1 ∙ drop-drop h.0 g.0 bytes)

@@ -7,7 +7,7 @@ use Rattle.t1_text.specs.Lines.{after_end, begins_with}
 use Rattle.t1_text.proofs.CutLaws.{line_gone}
 use Rattle.t1_parts.specs.Parts.{is_eexec}
 use Rattle.t1_disassemble.specs.Front.{line_len, front_line, past_line, line_starts, after_eexec_line}
-use Rattle.t1_disassemble.proofs.CutPieces.{IsLeft, left_twice, first_gone, left_pieces}
+use Rattle.t1_disassemble.proofs.CutPieces.{IsLeft, left_suffix, left_twice, first_gone, left_pieces}
 
 -- so many bytes from the front on pass a test; those after some of them are as many less
 prefix_later : (test : ℕ → Bool) (n : ℕ) (bytes : List ℕ) → n ≤ prefix_len test bytes → prefix_len test bytes - n ≡ prefix_len test (drop n bytes)
@@ -34,6 +34,12 @@ end_left (c ∷ rest) = elim (cases_Bool (c == 13 && begins_with 10 rest)) [
 
 pub line_left : (l : List ℕ) → IsLeft l (past_line l)
 line_left l = left_twice l (drop (line_len l) l) (past_line l) (line_len l, refl) (end_left (drop (line_len l) l))
+
+-- what stands behind a line that ends some bytes ends them too
+pub line_suffix : (bytes rest after : List ℕ) → rest ≡ drop (length bytes - length rest) bytes → after ≡ past_line rest → after ≡ drop (length bytes - length after) bytes
+line_suffix bytes rest after h e =
+    let behind = line_left rest in
+    left_suffix bytes after (left_twice bytes rest after (length bytes - length rest, h) (behind.0, e ∙ behind.1))
 
 -- the bytes from each line on: all, and those from the lines after the first on
 pub starts_more : (c : ℕ) (bytes : List ℕ) → line_starts (c ∷ bytes) ≡ (c ∷ bytes) ∷ line_starts (past_line (c ∷ bytes))

@@ -5,7 +5,7 @@ use Rattle.t1_disassemble.specs.declared.fault.FontFault.{FontFault}
 use Rattle.t1_disassemble.specs.Disassembly.{source_of, disassembled}
 use Rattle.t1_disassemble.specs.Front.{after_eexec}
 use Rattle.t1_disassemble.specs.InPlace.{tailless, IsFront}
-use Rattle.t1_disassemble.specs.SegmentsRead.{FontParts, segments_of, parts_onto, no_parts, font_parts}
+use Rattle.t1_disassemble.specs.SegmentsRead.{FontParts, segments_of, parts_onto, font_parts}
 use Rattle.t1_disassemble.proofs.InPlaceLaws.{tailed}
 
 abbrev text_of : Result FontParts FontFault → Result (List ℕ) FontFault

@@ -72,7 +72,7 @@ spelled_leaves : (rest : List ℕ) (found : Result (ℤ × List ℕ) FontCode) �
 spelled_leaves rest (Ok it) h = h
 spelled_leaves rest (Err code) h = tt
 
-word_leaves : (v : ℕ) (rest : List ℕ) → Leaves rest (word_at v rest)
+pub word_leaves : (v : ℕ) (rest : List ℕ) → Leaves rest (word_at v rest)
 unfolding word_at
 word_leaves v rest = elim (cases_Bool (ltb v 32)) [
   | inl t ↦ rw t (operator_leaves v rest)
@@ -101,7 +101,7 @@ words_more v rest = found_more rest (word_at v rest) (word_leaves v rest)
 
 -- ---- a word is printed in front of those that are left
 
-printed_more : (text w : List ℕ) (is_open : Bool) (ws : List (List ℕ))
+pub printed_more : (text w : List ℕ) (is_open : Bool) (ws : List (List ℕ))
     → text ++ printed_words is_open (w ∷ ws) ≡ with_word text is_open w ++ printed_words (is_number_word w) ws
 printed_more text w is_open ws = elim (cases_Bool (is_number_word w)) [
   | inl t ↦ rw t (simp (append_assoc, append-nil))

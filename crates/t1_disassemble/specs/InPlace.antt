@@ -1,5 +1,5 @@
 -- Files whose first two segments hold the clear text and the encrypted part, which stay where they stand.
-use Rattle.std.specs.Prelude.{◌≡◌, ℕ, ◌+◌, ◌<◌, ◌≤◌, true, List, [], ◌++◌, take, drop, length, Option, Some, None, Result, Ok, Err}
+use Rattle.std.specs.Prelude.{◌≡◌, ℕ, ◌+◌, ◌<◌, ◌≤◌, true, List, [], take, drop, length, Option, Some, None, Result, Ok, Err}
 use Rattle.t1_text.specs.Lines.{begins_with}
 use Rattle.t1_code.specs.Pfb.{marker}
 use Rattle.t1_disassemble.specs.declared.fault.FontFault.{FontFault}

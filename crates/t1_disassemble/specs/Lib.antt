@@ -15,6 +15,7 @@ pub mod Lent
 pub mod Opened
 pub mod Opening
 pub mod Outcome
+pub mod Packed
 pub mod PieceLeft
 pub mod PiecesOnto
 pub mod Placed
@@ -22,6 +23,8 @@ pub mod PrivateText
 pub mod SegmentsFound
 pub mod SegmentsRead
 pub mod Settings
+pub mod SoundWords
 pub mod SourceOnto
+pub mod Waiting
 pub mod Words
 pub mod WordsOnto

@@ -1,5 +1,5 @@
 -- The source of an encrypted part, after other lines.
-use Rattle.std.specs.Prelude.{ℕ, ◌+◌, ◌-◌, false, List, ◌++◌, drop, length, Result, Ok}
+use Rattle.std.specs.Prelude.{ℕ, ◌+◌, ◌-◌, false, List, [], ◌++◌, drop, length, Result, Ok}
 use Rattle.t1_frac.specs.Outcome.{◌>>=◌}
 use Rattle.t1_text.specs.Lines.{lines, joined}
 use Rattle.t1_parts.specs.Parts.{tail_of}
@@ -33,3 +33,19 @@ binary_onto text tail plain =
     private_onto (reading_operator (lines plain)) lead text false plain >>= λ private.
     single_sections (drop (length text) private.0) >>= λ single.
     Ok (private.0 ++ joined (tail_of (lines tail)))
+
+-- word: the lines of a private text, and how many of its bytes hold them
+abbrev pub counted_private : List ℕ → Result (List ℕ × ℕ) FontFault
+counted_private plain =
+    font_reported_at Nowhere (leading_bytes (lines plain)) >>= λ lead.
+    private_onto (reading_operator (lines plain)) lead [] false plain >>= λ private.
+    single_sections private.0 >>= λ single.
+    Ok (private.0, length plain - length private.1)
+
+-- word: these, and the lines of the tail
+abbrev pub segmented_source : List ℕ → List ℕ → Result (List ℕ) FontFault
+segmented_source tail plain = counted_private plain >>= λ found. Ok (found.0 ++ joined (tail_of (lines tail)))
+
+-- word: the same, of an encrypted part in binary whose file has no segments
+abbrev pub flat_source : List ℕ → Result (List ℕ) FontFault
+flat_source coded = counted_private (decrypted_private coded) >>= λ found. Ok (found.0 ++ joined (tail_of (lines (drop (4 + found.1) coded))))

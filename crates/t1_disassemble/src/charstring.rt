@@ -1,6 +1,6 @@
 //! The words of charstrings.
 ghost use Rattle.std.specs.Prelude.{◌≡◌, [], ◌+◌, ◌++◌, ◌≤◌, length, OnOk, IfOk, IfSome};
-ghost use Rattle.std.specs.Prelude.{MatchResult, take};
+ghost use Rattle.std.specs.Prelude.{MatchResult, OnErr, if◌then◌else◌, nat_lt, take};
 ghost use Rattle.std.specs.Prelude.{Ok, Err, true, false, option_map, nat_eq};
 ghost use Rattle.std.specs.Fmt.{signed_decimal};
 ghost use Rattle.std.specs.Map.{lookup};
@@ -10,14 +10,19 @@ ghost use Rattle.t1_disassemble.specs.Words.{one_byte_words, two_byte_words, esc
 ghost use Rattle.t1_disassemble.specs.Words.{operator_at, positive_at, negative_at, long_at};
 ghost use Rattle.t1_disassemble.specs.Words.{number_at, printed_words, words_of};
 ghost use Rattle.t1_disassemble.specs.Words.{words_of_encrypted};
+ghost use Rattle.t1_disassemble.specs.SoundWords.{code_lines};
+ghost use Rattle.t1_disassemble.specs.Waiting.{due, left_of};
 ghost use Rattle.t1_disassemble.specs.WordsOnto.{put_first, with_word, words_onto};
+ghost use Rattle.t1_code.specs.Writing.{Puts, outlet};
 ghost use Rattle.t1_disassemble.specs.declared.fault.FontPlace.TheVariants.{Nowhere};
 
 use crate::cipher::decipher_charstring;
 use crate::fault::{FontCode, FontRefusal};
 use crate::known_word::{KnownWord, known_word};
-use crate::waiting::{ROOM, make_room, put_blank, put_byte, put_bytes, put_number};
+use crate::waiting::{MOST_OF_A_WORD, ROOM, make_room, put_blank, put_byte, put_bytes, put_number};
 use std::alloc::AllocError;
+use std::io::{self, Write};
+use t1_code::{Chunk, Counted, put_plain, put_slices};
 
 /// The word of a command of one byte.
 #[tactic(auto, unfolding(t1_frac::specs::Numbers::is_number_word))]
@@ -234,6 +239,7 @@ fn put_any<'a>(
         (λ code. put_first (take len bytes.old) is_open first rest.now ≡ Err code) }
     ensures within { IfOk result (λ found. found.0 ≤ 256) }
     ensures shorter { IfOk result (λ found. length found.2.now ≤ length rest.now) }
+    ensures kept { OnErr result (bytes.new ≡ bytes.old) }
     ensures size { length bytes.new ≡ 256 }
 {
     if first < 32 {
@@ -263,6 +269,7 @@ fn put_word<'a>(
         (λ code. put_first (take len bytes.old) is_open first rest.now ≡ Err code) }
     ensures within { IfOk result (λ found. found.0 ≤ 256) }
     ensures shorter { IfOk result (λ found. length found.2.now ≤ length rest.now) }
+    ensures kept { OnErr result (bytes.new ≡ bytes.old) }
     ensures size { length bytes.new ≡ 256 }
 {
     if let Some(word) = known_word(known, first) {
@@ -301,7 +308,11 @@ fn push_first<'a>(
 /// Adds the lines of a charstring's words. At a fault and where memory runs out some of them may
 /// stand there.
 #[tactic(auto, using(crate::proofs::Reading::push_more, crate::proofs::Reading::push_none))]
-fn push_words(known: &[KnownWord], text: &mut Vec<u8>, code: &[u8]) -> Result<(), FontRefusal>
+pub(crate) fn push_words(
+    known: &[KnownWord],
+    text: &mut Vec<u8>,
+    code: &[u8],
+) -> Result<(), FontRefusal>
     ensures { GivesFont
         (λ _. text.new.items)
         result
@@ -344,4 +355,69 @@ pub(crate) fn push_encrypted(
     }
     decipher_charstring(buffer, bytes)?;
     push_words(known, text, buffer.split_at(lead).1)
+}
+
+/// Passes on the words that wait where there is no room for one more, and answers how many bytes
+/// wait then.
+fn put_full<W: Write>(
+    out: &mut Counted<W>,
+    chunk: &mut Chunk,
+    bytes: &[u8; ROOM],
+    len: usize,
+) -> io::Result<usize>
+    requires { len ≤ 256 }
+    ensures text { Puts W.contents (outlet out.old chunk.old) (outlet out.new chunk.new)
+        (due len bytes.now) result }
+    ensures left { IfOk result (λ left. left ≡ left_of len) }
+{
+    if len <= ROOM - MOST_OF_A_WORD {
+        return Ok(len);
+    }
+    put_plain(out, chunk, bytes.split_at(len).0)?;
+    Ok(0)
+}
+
+/// Passes on the words that wait, and ends a line that is open.
+fn put_last<W: Write>(
+    out: &mut Counted<W>,
+    chunk: &mut Chunk,
+    bytes: &[u8; ROOM],
+    len: usize,
+    is_open: bool,
+) -> io::Result<()>
+    requires { len ≤ 256 }
+    ensures { Puts W.contents (outlet out.old chunk.old) (outlet out.new chunk.new)
+        (take len bytes.now ++ printed_words is_open []) result }
+{
+    if is_open {
+        return put_slices(out, chunk, &[bytes.split_at(len).0, b"\n"]);
+    }
+    put_plain(out, chunk, bytes.split_at(len).0)
+}
+
+/// Passes on the lines of the words that some bytes begin with.
+pub(crate) fn put_words<W: Write>(
+    known: &[KnownWord],
+    out: &mut Counted<W>,
+    chunk: &mut Chunk,
+    code: &[u8],
+) -> io::Result<()>
+    ensures { Puts W.contents (outlet out.old chunk.old) (outlet out.new chunk.new)
+        (code_lines code.now) result }
+{
+    let mut bytes = [0; ROOM];
+    let mut len = 0;
+    let mut is_open = false;
+    let mut rest = code;
+    while let Some((first, after)) = rest.split_first() {
+        let left = put_full(out, chunk, &bytes, len)?;
+        let put = put_word(known, &mut bytes, left, is_open, *first, after);
+        let Ok((end, opened, others)) = put else {
+            return put_last(out, chunk, &bytes, left, is_open);
+        };
+        len = end;
+        is_open = opened;
+        rest = others;
+    }
+    put_last(out, chunk, &bytes, len, is_open)
 }

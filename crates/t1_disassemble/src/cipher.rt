@@ -1,6 +1,6 @@
 //! Charstring and eexec encryption undone.
-ghost use Rattle.std.specs.Prelude.{◌≡◌, ◌/◌, length, bit_xor, OnOk};
-ghost use Rattle.t1_code.specs.Cipher.{next_key};
+ghost use Rattle.std.specs.Prelude.{◌≡◌, ◌/◌, ℕ, List, length, bit_xor, OnOk};
+ghost use Rattle.t1_code.specs.Cipher.{next_key, cipher};
 ghost use Rattle.t1_disassemble.specs.Decipher.{deciphered};
 
 use std::alloc::AllocError;
@@ -64,6 +64,16 @@ impl Cipher {
         };
         plain
     }
+
+    /// The cipher byte of a plain byte.
+    fn cipher_byte(&mut self, plain: u8) -> u8
+        ensures byte { result ≡ bit_xor plain (self.old / 256) }
+        ensures key { self.new ≡ next_key self.old result }
+    {
+        let cipher = plain ^ (self.key / 256) as u8;
+        self.byte(cipher);
+        cipher
+    }
 }
 
 /// Puts the plain bytes in the place of the cipher bytes.
@@ -96,4 +106,23 @@ pub(crate) fn decipher_private(bytes: &mut [u8])
     ensures len { length bytes.new ≡ length bytes.old }
 {
     decipher(EEXEC_KEY, bytes);
+}
+
+/// Puts the cipher bytes in the place of the plain bytes.
+fn encipher(key: u16, bytes: &mut [u8])
+    ensures { bytes.new ≡ cipher key bytes.old }
+{
+    let mut state = Cipher::new(key);
+    for byte in bytes.iter_mut() {
+        *byte = state.cipher_byte(*byte);
+    }
+}
+
+/// Puts the encrypted bytes of a part back in the place of the plain ones that they were made.
+#[tactic(auto, using(crate::proofs::Deciphering::cipher_deciphered))]
+pub(crate) fn encipher_private(bytes: &mut [u8])
+    ensures { (encrypted : List ℕ) → bytes.old ≡ deciphered 55665 encrypted
+        → bytes.new ≡ encrypted }
+{
+    encipher(EEXEC_KEY, bytes);
 }

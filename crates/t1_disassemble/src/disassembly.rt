@@ -21,6 +21,7 @@ use crate::digits::{after_digits, digits_len, is_hexadecimal, push_bytes};
 use crate::fault::{FontCode, FontFault, FontPlace, FontRefusal};
 use crate::front::{after_eexec, is_space, past, past_line, past_spaces};
 use crate::kinds::{check_kind, check_sections};
+use crate::lines::Lines;
 use crate::private::{Settings, push_private};
 use crate::segments::{
     JoinedParts, LentParts, front_lens, has_segments, segmented_parts, text_left,
@@ -31,16 +32,16 @@ use t1_parts::{push_line, push_lines, tail_of};
 use t1_text::first_line;
 
 /// How many bytes stand before those of a segment.
-const HEAD_LEN: usize = 6;
+pub(crate) const HEAD_LEN: usize = 6;
 
 /// How many bytes of heads stand before those of a file's second segment.
-const HEADS_LEN: usize = 12;
+pub(crate) const HEADS_LEN: usize = 12;
 
 /// How many bytes stand in front of the private text.
-const EEXEC_LEAD: usize = 4;
+pub(crate) const EEXEC_LEAD: usize = 4;
 
 /// Adds the lines of a text to another.
-fn push_lines_of(text: &mut Vec<u8>, bytes: &[u8]) -> Result<(), AllocError>
+pub(crate) fn push_lines_of(text: &mut Vec<u8>, bytes: &[u8]) -> Result<(), AllocError>
     ensures { OnOk result (text.new.items ≡ text.old.items ++ joined (lines bytes.now)) }
 {
     let mut rest = bytes;
@@ -73,7 +74,7 @@ fn coded_bytes(alloc: Global, coded: &[u8]) -> Result<Vec<u8>, AllocError>
 }
 
 /// The plain bytes of an encrypted part, its leading bytes too.
-fn plain_bytes(alloc: Global, coded: &[u8]) -> Result<Vec<u8>, AllocError>
+pub(crate) fn plain_bytes(alloc: Global, coded: &[u8]) -> Result<Vec<u8>, AllocError>
     ensures { IfOk result (λ bytes. bytes.items ≡ deciphered 55665 (coded_bytes coded.now)) }
 {
     let mut bytes = coded_bytes(alloc, coded)?;
@@ -93,7 +94,7 @@ fn after_coded(coded: &[u8], count: usize) -> &[u8]
 }
 
 /// The text after the encrypted part: that of a file's segments, else what the private text leaves.
-fn tail_after<'a>(parts: &LentParts<'a>, coded: &'a [u8], count: usize) -> &'a [u8]
+pub(crate) fn tail_after<'a>(parts: &LentParts<'a>, coded: &'a [u8], count: usize) -> &'a [u8]
     requires { count < 2 ^ 63 }
     ensures { result.now ≡ tail_after (lent_parts parts.now) coded.now count }
 {
@@ -144,9 +145,9 @@ fn at_digits(place: usize, coded: &[u8], refusal: FontRefusal) -> FontRefusal
 
 /// Adds the lines of the private text, and answers the bytes after it; another byte among the
 /// digits of the encrypted part is its fault where the private text ends too early.
-fn push_checked<'a>(
+pub(crate) fn push_checked<'a, T: Lines>(
     alloc: Global,
-    text: &mut Vec<u8>,
+    text: &mut T,
     settings: &Settings,
     place: usize,
     coded: &[u8],
@@ -154,10 +155,11 @@ fn push_checked<'a>(
 ) -> Result<&'a [u8], FontRefusal>
     requires { place + length coded.now < 2 ^ 64 }
     ensures value { GivesFont
-        (λ rest. (text.new.items, rest.now))
+        (λ rest. (T.text text.new, rest.now))
         result
         (with_digits place coded.now
-        (private_onto settings.now.operator.now settings.now.lead text.old.items false plain.now)) }
+        (private_onto settings.now.operator.now settings.now.lead (T.text text.old) false
+        plain.now)) }
     ensures within { IfOk result (λ rest. length rest.now ≤ length plain.now) }
 {
     match push_private(alloc, text, settings, plain) {
@@ -167,7 +169,7 @@ fn push_checked<'a>(
 }
 
 /// How many bytes of a file stand before the encrypted ones, without the heads of its segments.
-fn coded_place(parts: &LentParts, coded: &[u8]) -> usize
+pub(crate) fn coded_place(parts: &LentParts, coded: &[u8]) -> usize
     ensures value { result ≡ coded_place (lent_parts parts.now) coded.now }
     ensures within { result + length coded.now < 2 ^ 64 }
 {
@@ -204,7 +206,7 @@ fn push_plain(
 }
 
 /// The bytes after the leading ones.
-fn past_lead(bytes: &[u8]) -> &[u8]
+pub(crate) fn past_lead(bytes: &[u8]) -> &[u8]
     ensures { result.now ≡ drop 4 bytes.now }
 {
     bytes.split_at(bytes.len().min(EEXEC_LEAD)).1
@@ -268,7 +270,7 @@ fn push_binary(
 }
 
 /// The bytes after the eexec line, and those of the encrypted part.
-fn joined_bytes(alloc: Global, after: &[u8], coded: &[u8]) -> Result<Vec<u8>, AllocError>
+pub(crate) fn joined_bytes(alloc: Global, after: &[u8], coded: &[u8]) -> Result<Vec<u8>, AllocError>
     ensures { IfOk result (λ bytes. bytes.items ≡ after.now ++ coded.now) }
 {
     let mut bytes = Vec::from_slice(alloc, after)?;

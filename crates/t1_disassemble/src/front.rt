@@ -1,13 +1,13 @@
 //! The line at the front of some bytes, and the part of a font that ends with its eexec line.
-ghost use Rattle.std.specs.Prelude.{◌≡◌, ◌≤◌, ◌<◌, length, option_map, drop, IfSome};
+ghost use Rattle.std.specs.Prelude.{◌≡◌, ◌≤◌, ◌<◌, ◌-◌, length, option_map, drop, IfSome};
 ghost use Rattle.std.specs.List.{prefix_len};
 ghost use Rattle.t1_text.specs.Lines.{is_line_end};
 ghost use Rattle.t1_parts.specs.Parts.{is_eexec};
 ghost use Rattle.t1_disassemble.specs.Front.{line_len, front_line, past_line, after_eexec_line};
 ghost use Rattle.t1_disassemble.specs.Front.{after_eexec_words, after_eexec, is_space, past_spaces};
 
-use crate::settings::text_place;
 use memchr::memchr2;
+use t1_parts::text_place;
 use t1_text::{cut_line, trimmed};
 
 /// How many bytes `currentfile eexec` has.
@@ -51,10 +51,12 @@ fn is_eexec(line: &[u8]) -> bool
 }
 
 /// What stands after the line that ends the clear part.
-#[tactic(auto, using(crate::proofs::Fronts::eexec_more, crate::proofs::Fronts::no_eexec, t1_text::proofs::CutLaws::line_gone, t1_text::proofs::CutLaws::after_within))]
+#[tactic(auto, using(crate::proofs::Fronts::eexec_more, crate::proofs::Fronts::no_eexec, crate::proofs::CutPieces::left_suffix, t1_text::proofs::CutLaws::line_gone, t1_text::proofs::CutLaws::after_within))]
 fn after_eexec_line(bytes: &[u8]) -> Option<&[u8]>
     ensures value { option_map (λ after. after.now) result ≡ after_eexec_line bytes.now }
     ensures within { IfSome result (λ after. length after.now ≤ length bytes.now) }
+    ensures left { IfSome result (λ after. after.now
+        ≡ drop (length bytes.now - length after.now) bytes.now) }
 {
     let mut rest = bytes;
     while !rest.is_empty() {
@@ -68,10 +70,12 @@ fn after_eexec_line(bytes: &[u8]) -> Option<&[u8]>
 }
 
 /// What stands after the first `currentfile eexec` with a space behind it.
-#[tactic(auto, unfolding(crate::specs::Front::after_eexec_words))]
+#[tactic(auto, unfolding(crate::specs::Front::after_eexec_words), using(crate::proofs::CutPieces::dropped_once))]
 fn after_eexec_words(bytes: &[u8]) -> Option<&[u8]>
     ensures value { option_map (λ after. after.now) result ≡ after_eexec_words bytes.now }
     ensures within { IfSome result (λ after. length after.now ≤ length bytes.now) }
+    ensures left { IfSome result (λ after. after.now
+        ≡ drop (length bytes.now - length after.now) bytes.now) }
 {
     let place = text_place(b"currentfile eexec ", bytes);
     if place < bytes.len() {
@@ -84,6 +88,8 @@ fn after_eexec_words(bytes: &[u8]) -> Option<&[u8]>
 pub(crate) fn after_eexec(bytes: &[u8]) -> Option<&[u8]>
     ensures value { option_map (λ after. after.now) result ≡ after_eexec bytes.now }
     ensures within { IfSome result (λ after. length after.now ≤ length bytes.now) }
+    ensures left { IfSome result (λ after. after.now
+        ≡ drop (length bytes.now - length after.now) bytes.now) }
 {
     match after_eexec_line(bytes) {
         Some(after) => Some(after),
@@ -99,7 +105,7 @@ pub(crate) fn is_space(byte: u8) -> bool
 }
 
 /// How many such bytes stand at the front.
-fn space_len(bytes: &[u8]) -> usize
+pub(crate) fn space_len(bytes: &[u8]) -> usize
     ensures within { result ≤ length bytes.now }
     ensures value { result ≡ prefix_len is_space bytes.now }
 {

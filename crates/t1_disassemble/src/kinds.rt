@@ -11,8 +11,9 @@ ghost use Rattle.t1_disassemble.specs.Kinds.{has_second};
 ghost use Rattle.t1_disassemble.specs.Kinds.{single_sections};
 
 use crate::fault::{FontCode, FontFault, FontPlace};
-use crate::settings::{is_glyphs_line, is_subrs_line, text_place};
+use crate::settings::{is_glyphs_line, is_subrs_line};
 use memchr::memchr;
+use t1_parts::text_place;
 use t1_text::{first_line, last_line_start, next_place};
 
 /// Bytes that hold a text are refused where it first stands.
@@ -122,12 +123,12 @@ fn next_slashed(bytes: &[u8]) -> Option<(&[u8], &[u8])>
     Some(first_line(bytes.split_at(start).1))
 }
 
-/// Whether a text has two Subrs lines or two CharStrings lines. Lines without a slash aren't looked
-/// at, which are most.
+/// How many Subrs lines and how many CharStrings lines a text has. Lines without a slash aren't
+/// looked at, which are most.
 #[tactic(auto, using(crate::proofs::KindLaws::lines_counted))]
-fn has_second(text: &[u8]) -> bool
-    ensures { result
-        ≡ (has_second subrs_line (lines text.now) || has_second glyphs_line (lines text.now)) }
+pub(crate) fn section_counts(text: &[u8]) -> (usize, usize)
+    ensures subrs { result.0 ≡ length (filter (is_line_of subrs_line) (lines text.now)) }
+    ensures glyphs { result.1 ≡ length (filter (is_line_of glyphs_line) (lines text.now)) }
 {
     let mut subrs = 0;
     let mut glyphs = 0;
@@ -138,6 +139,15 @@ fn has_second(text: &[u8]) -> bool
         glyphs += some_glyphs;
         rest = after;
     }
+    (subrs, glyphs)
+}
+
+/// Whether a text has two Subrs lines or two CharStrings lines.
+fn has_second(text: &[u8]) -> bool
+    ensures { result
+        ≡ (has_second subrs_line (lines text.now) || has_second glyphs_line (lines text.now)) }
+{
+    let (subrs, glyphs) = section_counts(text);
     1 < subrs || 1 < glyphs
 }
 

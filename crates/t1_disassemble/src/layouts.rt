@@ -3,8 +3,9 @@ ghost use Rattle.std.specs.Prelude.{◌≡◌, ◌<◌, ◌^◌, true, length, I
 ghost use Rattle.t1_parts.specs.Parts.{is_closefile};
 ghost use Rattle.t1_disassemble.specs.Layouts.{is_border, begins_border, one_line, are_one};
 
-use crate::settings::{begins_section, ends_in, is_section};
+use crate::settings::{begins_section, is_section};
 use std::alloc::AllocError;
+use t1_parts::ends_in;
 use t1_text::trimmed;
 
 /// Whether a line closes the encrypted part.

@@ -11,7 +11,10 @@ mod kinds;
 mod known_word;
 pub mod laws;
 mod layouts;
+mod lines;
 mod opening;
+mod packed;
+mod packing;
 mod private;
 mod segments;
 mod settings;
@@ -19,3 +22,4 @@ mod waiting;
 
 pub use disassembly::{disassemble, disassemble_in_place};
 pub use fault::{FontCode, FontFault, FontPlace, FontRefusal};
+pub use packing::{FontSource, read_font};

@@ -19,42 +19,40 @@ ghost use Rattle.t1_disassemble.specs.PrivateText.{plain_text, front_text, head_
 ghost use Rattle.t1_disassemble.specs.Words.{words_of_encrypted};
 ghost use Rattle.t1_disassemble.specs.WordsOnto.{words_onto};
 
-use crate::charstring::push_encrypted;
 use crate::fault::{FontCode, FontFault, FontPlace, FontRefusal};
 use crate::front::{line_len, line_len_after, past};
 use crate::known_word::{KnownWord, known_words};
 use crate::layouts::{are_one, is_closefile};
+use crate::lines::Lines;
 use crate::opening::{Opening, first_opening};
 use std::alloc::{AllocError, Global};
 use t1_frac::Bytes;
-use t1_parts::push_line;
 use t1_text::trimmed;
 
 /// Adds the last line of an entry.
-fn push_last_line(text: &mut Vec<u8>, closing: &[u8]) -> Result<(), AllocError>
-    ensures { OnOk result (text.new.items
-        ≡ text.old.items ++ last_line closing.now ++ line_feed ∷ []) }
+fn push_last_line<T: Lines>(text: &mut T, closing: &[u8]) -> Result<(), AllocError>
+    ensures { OnOk result (T.text text.new
+        ≡ T.text text.old ++ last_line closing.now ++ line_feed ∷ []) }
 {
-    text.extend_from_slice(b"\t}")?;
-    if !closing.is_empty() {
-        text.push(b' ')?;
+    if closing.is_empty() {
+        return text.add_line(b"\t}", b"", b"");
     }
-    push_line(text, closing)
+    text.add_line(b"\t} ", closing, b"")
 }
 
 /// Adds a line as it stands, or the closing text of an entry that waits for it.
-fn push_plain(text: &mut Vec<u8>, waits: bool, line: &[u8]) -> Result<(), AllocError>
-    ensures { OnOk result (text.new.items ≡ text.old.items ++ plain_text waits line.now) }
+fn push_plain<T: Lines>(text: &mut T, waits: bool, line: &[u8]) -> Result<(), AllocError>
+    ensures { OnOk result (T.text text.new ≡ T.text text.old ++ plain_text waits line.now) }
 {
     if waits {
         return push_last_line(text, trimmed(line));
     }
-    push_line(text, line)
+    text.add_line(line, b"", b"")
 }
 
 /// Adds what stands on a line before an entry.
-fn push_front(text: &mut Vec<u8>, waits: bool, front: &[u8]) -> Result<(), AllocError>
-    ensures { OnOk result (text.new.items ≡ text.old.items ++ front_text waits front.now) }
+fn push_front<T: Lines>(text: &mut T, waits: bool, front: &[u8]) -> Result<(), AllocError>
+    ensures { OnOk result (T.text text.new ≡ T.text text.old ++ front_text waits front.now) }
 {
     if !waits && trimmed(front).is_empty() {
         return Ok(());
@@ -74,12 +72,14 @@ fn push_name(text: &mut Vec<u8>, opening: &Opening) -> Result<(), AllocError>
 }
 
 /// Adds the first line of an entry.
-fn push_head(text: &mut Vec<u8>, opening: &Opening) -> Result<(), AllocError>
-    ensures { OnOk result (text.new.items
-        ≡ text.old.items ++ head_line (opening_of opening.now).name) }
+fn push_head<T: Lines>(text: &mut T, opening: &Opening) -> Result<(), AllocError>
+    ensures { OnOk result (T.text text.new
+        ≡ T.text text.old ++ head_line (opening_of opening.now).name) }
 {
-    push_name(text, opening)?;
-    push_line(text, b" {")
+    if opening.is_subr {
+        return text.add_line(b"dup ", opening.name, b" {");
+    }
+    text.add_line(b"", opening.name, b" {")
 }
 
 /// The place of an entry.
@@ -108,22 +108,22 @@ fn at_entry(alloc: Global, opening: &Opening, refusal: FontRefusal) -> FontRefus
 }
 
 /// Adds the words of an entry's charstring.
-fn push_charstring(
+fn push_charstring<T: Lines>(
     alloc: Global,
     known: &[KnownWord],
-    text: &mut Vec<u8>,
+    text: &mut T,
     buffer: &mut Vec<u8>,
     lead: u8,
     opening: &Opening,
     bytes: &[u8],
 ) -> Result<(), FontRefusal>
     ensures { GivesFont
-        (λ _. text.new.items)
+        (λ _. T.text text.new)
         result
-        (font_reported_at (Entry (opening_of opening.now).name) (words_onto text.old.items false
+        (font_reported_at (Entry (opening_of opening.now).name) (words_onto (T.text text.old) false
         (words_of_encrypted lead bytes.now))) }
 {
-    match push_encrypted(known, text, buffer, lead, bytes) {
+    match text.add_words(known, buffer, lead, bytes) {
         Ok(()) => Ok(()),
         Err(refusal) => Err(at_entry(alloc, opening, refusal)),
     }
@@ -133,7 +133,7 @@ fn push_charstring(
 /// before the first line end, whether an entry waits for its closing text, and whether it was the
 /// last piece.
 #[derive(Clone, Copy, Debug)]
-pub(crate) struct Piece<'a> {
+pub(crate) struct EntryRead<'a> {
     pub(crate) rest: &'a [u8],
     pub(crate) end: usize,
     pub(crate) waits: bool,
@@ -141,7 +141,7 @@ pub(crate) struct Piece<'a> {
 }
 
 /// The first so many bytes, or all.
-fn up_to(bytes: &[u8], count: usize) -> &[u8]
+pub(crate) fn up_to(bytes: &[u8], count: usize) -> &[u8]
     ensures { result.now ≡ take count bytes.now }
 {
     bytes.split_at(count.min(bytes.len())).0
@@ -159,19 +159,19 @@ fn after_end(bytes: &[u8]) -> &[u8]
 
 /// Adds an entry, whose charstring stands at the front of some bytes, and answers what stands after
 /// it.
-fn push_entry<'a>(
+fn push_entry<'a, T: Lines>(
     alloc: Global,
     known: &[KnownWord],
-    text: &mut Vec<u8>,
+    text: &mut T,
     buffer: &mut Vec<u8>,
     lead: u8,
     opening: &Opening,
     bytes: &'a [u8],
 ) -> Result<&'a [u8], FontRefusal>
     ensures { GivesFont
-        (λ rest. entry_left text.new.items rest.now)
+        (λ rest. entry_left (T.text text.new) rest.now)
         result
-        (entry_onto lead text.old.items (opening_of opening.now) bytes.now) }
+        (entry_onto lead (T.text text.old) (opening_of opening.now) bytes.now) }
 {
     if bytes.len() < opening.count {
         return Err(FontRefusal::from(FontFault {
@@ -213,21 +213,21 @@ fn goes_on(
 /// Adds the line that stands at the front, with the next one where both are one in the source, and
 /// answers what is left.
 #[tactic(auto, using(t1_text::proofs::CutLaws::line_gone, t1_text::proofs::CutLaws::after_within))]
-fn push_whole_line<'a>(
-    text: &mut Vec<u8>,
+fn push_whole_line<'a, T: Lines>(
+    text: &mut T,
     buffer: &mut Vec<u8>,
     operator: &[u8],
     waits: bool,
     end: usize,
     bytes: &'a [u8],
-) -> Result<Piece<'a>, AllocError>
+) -> Result<EntryRead<'a>, AllocError>
     requires end { end ≡ line_len bytes.now }
     requires within { end ≤ length bytes.now }
     requires some { 0 < length bytes.now }
     ensures value { IfOk
         result
-        (λ piece. piece_of text.new.items piece
-        ≡ line_onto operator.now text.old.items waits bytes.now) }
+        (λ piece. piece_of (T.text text.new) piece
+        ≡ line_onto operator.now (T.text text.old) waits bytes.now) }
     ensures shorter { IfOk result (λ piece. length piece.rest.now < length bytes.now) }
     ensures end { IfOk result (λ piece. piece.end ≡ line_len piece.rest.now) }
 {
@@ -238,7 +238,7 @@ fn push_whole_line<'a>(
     if goes_on(buffer, operator, line, next)? {
         push_plain(text, waits, buffer)?;
         let after = after_end(next_ended);
-        return Ok(Piece {
+        return Ok(EntryRead {
             rest: after,
             end: line_len(after),
             waits: false,
@@ -246,7 +246,7 @@ fn push_whole_line<'a>(
         });
     }
     push_plain(text, waits, line)?;
-    Ok(Piece {
+    Ok(EntryRead {
         rest,
         end: next_end,
         waits: false,
@@ -256,21 +256,22 @@ fn push_whole_line<'a>(
 
 /// Adds the next piece of the private text: a line through the entry that opens on it, or whole.
 #[tactic(auto, unfolding(crate::specs::PiecesOnto::read_onto), using(crate::proofs::Pieces::shorter_after, crate::proofs::Pieces::dropped_twice))]
-fn push_piece<'a>(
+fn push_piece<'a, T: Lines>(
     alloc: Global,
     known: &[KnownWord],
-    text: &mut Vec<u8>,
+    text: &mut T,
     buffer: &mut Vec<u8>,
     settings: &Settings,
     waits: bool,
     end: usize,
     bytes: &'a [u8],
-) -> Result<Piece<'a>, FontRefusal>
+) -> Result<EntryRead<'a>, FontRefusal>
     requires { end ≡ line_len bytes.now }
     ensures value { GivesFont
-        (λ piece. piece_of text.new.items piece)
+        (λ piece. piece_of (T.text text.new) piece)
         result
-        (read_onto settings.now.operator.now settings.now.lead text.old.items waits bytes.now) }
+        (read_onto settings.now.operator.now settings.now.lead (T.text text.old) waits
+        bytes.now) }
     ensures end { IfOk result (λ piece. piece.end ≡ line_len piece.rest.now) }
     ensures shorter { IfOk result (λ piece. length piece.rest.now < length bytes.now) }
 {
@@ -284,7 +285,7 @@ fn push_piece<'a>(
     push_front(text, waits, up_to(bytes, opening.at))?;
     let data = past(bytes, opening.end + 1);
     let rest = push_entry(alloc, known, text, buffer, settings.lead, &opening, data)?;
-    Ok(Piece {
+    Ok(EntryRead {
         rest,
         end: line_len_after(end, bytes.len() - rest.len(), bytes),
         waits: true,
@@ -292,26 +293,24 @@ fn push_piece<'a>(
     })
 }
 
-/// About how many times as long as a font's private text its lines are in the source.
-const LENGTHS: usize = 4;
-
 /// Adds the lines of the private text, through the one that closes the encrypted part, and answers
 /// the bytes after it. At a fault and where memory runs out some of the lines may stand there.
 #[tactic(auto, using(crate::proofs::Pieces::private_more))]
-pub(crate) fn push_private<'a>(
+pub(crate) fn push_private<'a, T: Lines>(
     alloc: Global,
-    text: &mut Vec<u8>,
+    text: &mut T,
     settings: &Settings,
     bytes: &'a [u8],
 ) -> Result<&'a [u8], FontRefusal>
     ensures value { GivesFont
-        (λ rest. (text.new.items, rest.now))
+        (λ rest. (T.text text.new, rest.now))
         result
-        (private_onto settings.now.operator.now settings.now.lead text.old.items false bytes.now) }
+        (private_onto settings.now.operator.now settings.now.lead (T.text text.old) false
+        bytes.now) }
     ensures within { IfOk result (λ rest. length rest.now ≤ length bytes.now) }
 {
     let known = known_words(alloc)?;
-    text.reserve(bytes.len().saturating_mul(LENGTHS))?;
+    text.make_room(bytes.len())?;
     let mut buffer = Vec::new(alloc);
     let mut waits = false;
     let mut end = line_len(bytes);

@@ -1,12 +1,8 @@
 //! What the private text says before its first section: the reading operator and lenIV.
-ghost use Rattle.std.specs.Prelude.{◌≡◌, ◌≤◌, ◌<◌, ◌+◌, ◌^◌, None, length, is_some, option_map};
-ghost use Rattle.std.specs.Prelude.{filter_map};
+ghost use Rattle.std.specs.Prelude.{◌≡◌, ◌≤◌, ◌<◌, ◌^◌, length, is_some, option_map};
 ghost use Rattle.std.specs.Char.{is_ascii_digit};
-ghost use Rattle.std.specs.List.{last_or, suffix_len};
+ghost use Rattle.std.specs.List.{suffix_len};
 ghost use Rattle.t1_text.specs.Lines.{lines};
-ghost use Rattle.t1_text.specs.Tokens.{places_from};
-ghost use Rattle.t1_parts.specs.Operator.{text_place, name_within, operator_on};
-ghost use Rattle.t1_parts.specs.Parts.{ends_in};
 ghost use Rattle.t1_parts.specs.Sections.{subrs_line, glyphs_line};
 ghost use Rattle.t1_disassemble.specs.Settings.{heads_section, undigited, ends_in_key};
 ghost use Rattle.t1_disassemble.specs.Settings.{begins_section};
@@ -14,8 +10,8 @@ ghost use Rattle.t1_disassemble.specs.Settings.{opens_section, lead_said, readin
 ghost use Rattle.t1_disassemble.specs.Settings.{leading_bytes};
 
 use crate::fault::FontCode;
-use t1_parts::{count_between, holds};
-use t1_text::{after_token, decimal_up_to, first_line, name_of_token, next_place, same, trimmed};
+use t1_parts::{count_between, ends_in, holds, operator_on};
+use t1_text::{after_token, decimal_up_to, first_line, same, trimmed};
 
 /// Whether a line is the Subrs line.
 pub(crate) fn is_subrs_line(line: &[u8]) -> bool
@@ -39,13 +35,6 @@ pub(crate) fn is_section(line: &[u8]) -> bool
     ensures { result ≡ heads_section line.now }
 {
     is_subrs_line(line) || is_glyphs_line(line)
-}
-
-/// Whether a line, trimmed, ends in a text.
-pub(crate) fn ends_in(text: &[u8], line: &[u8]) -> bool
-    ensures { result ≡ ends_in text.now line.now }
-{
-    trimmed(line).ends_with(text)
 }
 
 /// How many digits stand at the end of a line.
@@ -86,62 +75,6 @@ fn opens_section(line: &[u8]) -> bool
     ensures { result ≡ opens_section line.now }
 {
     is_section(line) || begins_section(line)
-}
-
-/// Where a text first stands on a line, or the line's length.
-pub(crate) fn text_place(text: &[u8], line: &[u8]) -> usize
-    ensures within { result ≤ length line.now }
-    ensures value { result ≡ text_place text.now line.now }
-{
-    let mut count = 0;
-    let mut rest = line;
-    while let Some((_byte, after)) = rest.split_first() {
-        if rest.starts_with(text) {
-            return count;
-        }
-        count += 1;
-        rest = after;
-    }
-    count
-}
-
-/// The name of a token `/NAME` at a place, where it ends at the end or before it.
-fn name_within(end: usize, place: usize, token: &[u8]) -> Option<&[u8]>
-    requires { place + length token.now < 2 ^ 64 }
-    ensures { option_map (λ name. name.now) result ≡ name_within end (place, token.now) }
-{
-    if place + token.len() <= end {
-        name_of_token(token)
-    } else {
-        None
-    }
-}
-
-/// The last name among the tokens of a line that end at this place or before it.
-fn last_name(end: usize, line: &[u8]) -> Option<&[u8]>
-    requires { length line.now < 2 ^ 63 }
-    ensures { option_map (λ name. name.now) result
-        ≡ last_or None (filter_map (name_within end) (places_from 0 line.now)) }
-{
-    let mut last: Option<&[u8]> = None;
-    let mut place = 0;
-    let mut rest = line;
-    while let Some((at, token, after)) = next_place(place, rest) {
-        if let Some(name) = name_within(end, at, token) {
-            last = Some(name);
-        }
-        place = at + token.len();
-        rest = after;
-    }
-    last
-}
-
-/// The operator that a line with `string currentfile` defines.
-fn operator_on(line: &[u8]) -> Option<&[u8]>
-    requires { length line.now < 2 ^ 63 }
-    ensures { option_map (λ name. name.now) result ≡ operator_on line.now }
-{
-    last_name(text_place(b"string currentfile", line), line)
 }
 
 /// The operator that reads charstrings, as the lines before the first section define it.

@@ -13,7 +13,7 @@ use std::alloc::AllocError;
 pub(crate) const ROOM: usize = 256;
 
 /// How many bytes a word takes at most, with the blank before it and the end of its line.
-const MOST_OF_A_WORD: usize = 24;
+pub(crate) const MOST_OF_A_WORD: usize = 24;
 
 /// Puts a byte after those that wait, and answers how many wait then.
 #[inline(always)]

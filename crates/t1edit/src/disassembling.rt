@@ -6,20 +6,19 @@ use crate::status::Stop;
 use std::alloc::Global;
 use std::io::Write;
 use t1_code::Counted;
-use t1_disassemble::disassemble_in_place;
+use t1_disassemble::read_font;
 use t1_session::ServeError;
 
-/// Writes the source of a font's file, whose memory may change. Of the file nothing is known
-/// afterwards.
+/// Writes the source of a font's file, whose memory is given back.
 pub fn disassemble_to<W: Write>(
     alloc: Global,
-    font: &mut [u8],
+    font: Vec<u8>,
     out: &mut Counted<W>,
 ) -> Result<(), Stop>
-    ensures { DeliversSource W.contents out.old out.new (disassembled font.old) result }
+    ensures { DeliversSource W.contents out.old out.new (disassembled font.items) result }
 {
-    let source = disassemble_in_place(alloc, font)?;
-    match out.put_all(&source) {
+    let source = read_font(alloc, font)?;
+    match source.write(out) {
         Ok(()) => Ok(()),
         Err(_) => Err(Stop::from(ServeError::Write)),
     }

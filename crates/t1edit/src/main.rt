@@ -158,9 +158,9 @@ fn disassemble(rt: &HostRuntime, matches: &ArgMatches<'_>) -> Result<Ended, Stop
     if let Some(path) = path {
         refuse_over_font(rt, path, font)?;
     }
-    let mut bytes = read_input(rt, font)?;
+    let bytes = read_input(rt, font)?;
     let mut output = Output::open(rt, path)?;
-    let answer = disassemble_to(rt.alloc(), &mut bytes, &mut output.out);
+    let answer = disassemble_to(rt.alloc(), bytes, &mut output.out);
     output.finish(rt, answer)
 }
 

@@ -5,11 +5,11 @@ use Rattle.t1_disassemble.proofs.private.push_private.Given as goal
 
 -- the text so far, and the pieces that are left
 abbrev pub invariant-loop-buffer : goal.invariant-loop-buffer
-invariant-loop-buffer l = record {
-  read : private_onto l.settings.operator.now l.settings.lead l.text.items l.waits l.rest ≡ private_onto l.settings.operator.now l.settings.lead l.fn.text.items false l.bytes;
+invariant-loop-buffer g l = record {
+  read : private_onto l.settings.operator.now l.settings.lead (g.T.Lines.text l.text) l.waits l.rest ≡ private_onto l.settings.operator.now l.settings.lead (g.T.Lines.text l.fn.text) false l.bytes;
   end : l.end ≡ line_len l.rest;
   within : length l.rest ≤ length l.bytes;
 }
 
 abbrev pub decreases-loop-buffer : goal.decreases-loop-buffer
-decreases-loop-buffer l = length l.rest
+decreases-loop-buffer g l = length l.rest

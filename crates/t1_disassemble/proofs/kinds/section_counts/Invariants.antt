@@ -3,7 +3,7 @@ use Rattle.std.specs.Prelude.{filter}
 use Rattle.t1_text.specs.Lines.{lines}
 use Rattle.t1_parts.specs.Sections.{subrs_line, glyphs_line}
 use Rattle.t1_disassemble.specs.Kinds.{is_line_of}
-use Rattle.t1_disassemble.proofs.kinds.has_second.Given as goal
+use Rattle.t1_disassemble.proofs.kinds.section_counts.Given as goal
 
 -- the lines of each kind so far, and those that are left
 abbrev pub invariant-loop-line : goal.invariant-loop-line

@@ -2,7 +2,7 @@ use Rattle.std.proofs.Common.{length}
 use Rattle.t1_text.specs.Lines.{lines}
 use Rattle.t1_parts.specs.Sections.{subrs_line, glyphs_line}
 use Rattle.t1_disassemble.proofs.KindLaws.{counted_more, few_more}
-use Rattle.t1_disassemble.proofs.kinds.has_second.Goals as goal
+use Rattle.t1_disassemble.proofs.kinds.section_counts.Goals as goal
 
 pub loop-line-preserved : goal.loop-line-preserved
 loop-line-preserved c =

@@ -1,0 +1,368 @@
+//! The source of a font's file, kept with its charstrings as bytes until it is written.
+ghost use Rattle.std.specs.Prelude.{◌≡◌, ◌+◌, ◌-◌, ◌<◌, ◌≤◌, ◌^◌, [], ◌++◌, true, length, drop};
+ghost use Rattle.std.specs.Prelude.{OnOk, IfOk};
+ghost use Rattle.t1_text.specs.Lines.{begins_with, lines, joined};
+ghost use Rattle.t1_code.specs.Writing.{Puts, Writes, outlet};
+ghost use Rattle.t1_code.specs.Pfb.{marker};
+ghost use Rattle.t1_parts.specs.Parts.{tail_of};
+ghost use Rattle.t1_disassemble.specs.Decipher.{decrypted_private};
+ghost use Rattle.t1_disassemble.specs.Disassembly.{source_of, disassembled};
+ghost use Rattle.t1_disassemble.specs.Front.{after_eexec, past_spaces};
+ghost use Rattle.t1_disassemble.specs.Lent.{lent_parts};
+ghost use Rattle.t1_disassemble.specs.Outcome.{GivesFont};
+ghost use Rattle.t1_disassemble.specs.SourceOnto.{plain_onto, source_onto, counted_private};
+ghost use Rattle.t1_disassemble.specs.SourceOnto.{segmented_source, flat_source};
+
+use crate::cipher::{decipher_private, encipher_private};
+use crate::digits::is_hexadecimal;
+use crate::disassembly::{
+    EEXEC_LEAD, HEAD_LEN, HEADS_LEN, coded_place, joined_bytes, past_lead, plain_bytes,
+    push_checked, push_lines_of, tail_after,
+};
+use crate::fault::{FontCode, FontRefusal};
+use crate::front::{after_eexec, past, past_spaces, space_len};
+use crate::kinds::check_kind;
+use crate::known_word::{KnownWord, known_words};
+use crate::lines::add_lines;
+use crate::packed::Packed;
+use crate::private::{Settings, push_private};
+use crate::segments::{
+    JoinedParts, LentParts, front_lens, has_segments, segmented_parts, text_left,
+};
+use crate::settings::{leading_bytes, reading_operator};
+use std::alloc::{AllocError, Global};
+use std::io::{self, Write};
+use std::marker::Model;
+use t1_code::{Chunk, Counted, put_plain};
+use t1_parts::tail_of;
+
+/// The source of a font. Contracts see its text.
+#[derive(Drop)]
+pub struct FontSource {
+    front: Vec<u8>,
+    lines: Packed,
+    known: Vec<KnownWord>,
+}
+
+impl Model for FontSource {
+    ghost use Rattle.std.specs.Prelude.{List, ℕ, ◌++◌};
+
+    ghost Value = { List ℕ };
+
+    ghost view = { λ source. source.front.items ++ source.lines };
+}
+
+impl FontSource {
+    /// Passes on the text.
+    fn put<W: Write>(&self, out: &mut Counted<W>, chunk: &mut Chunk) -> io::Result<()>
+        ensures { Puts W.contents (outlet out.old chunk.old) (outlet out.new chunk.new) self.now
+            result }
+    {
+        put_plain(out, chunk, &self.front)?;
+        self.lines.put(&self.known, out, chunk)
+    }
+
+    /// Writes the text. It takes no memory.
+    pub fn write<W: Write>(&self, out: &mut Counted<W>) -> io::Result<()>
+        ensures { Writes W.contents out.old out.new self.now result }
+    {
+        let mut chunk = Chunk::new();
+        self.put(out, &mut chunk)?;
+        chunk.send(out)
+    }
+}
+
+/// Adds the lines of a tail.
+fn add_tail(alloc: Global, text: &mut Packed, tail: &[u8]) -> Result<(), AllocError>
+    ensures { OnOk result (text.new ≡ text.old ++ joined (tail_of (lines tail.now))) }
+{
+    let lines = tail_of(alloc, tail)?;
+    add_lines(text, &lines)
+}
+
+/// The lines of the private text of an encrypted part, and those of the tail.
+fn packed_plain(
+    alloc: Global,
+    parts: &LentParts,
+    coded: &[u8],
+    plain: &[u8],
+) -> Result<Packed, FontRefusal>
+    requires { length plain.now < 2 ^ 63 - 4 }
+    ensures { GivesFont
+        (λ text. text)
+        result
+        (plain_onto [] (lent_parts parts.now) coded.now plain.now) }
+{
+    let lead = leading_bytes(plain)?;
+    let settings = Settings {
+        operator: reading_operator(plain),
+        lead,
+    };
+    let place = coded_place(parts, coded);
+    let mut text = Packed::new(alloc);
+    let rest = push_checked(alloc, &mut text, &settings, place, coded, plain)?;
+    text.check_sections()?;
+    let count = EEXEC_LEAD + (plain.len() - rest.len());
+    add_tail(alloc, &mut text, tail_after(parts, coded, count))?;
+    Ok(text)
+}
+
+/// The same, of the encrypted part alone.
+fn packed_source(alloc: Global, parts: &LentParts, coded: &[u8]) -> Result<Packed, FontRefusal>
+    ensures { GivesFont
+        (λ text. text)
+        result
+        (source_onto [] (lent_parts parts.now) coded.now) }
+{
+    let bytes = plain_bytes(alloc, coded)?;
+    packed_plain(alloc, parts, coded, past_lead(&bytes))
+}
+
+/// The lines of a private text, and how many of its bytes hold them.
+fn packed_private(alloc: Global, plain: &[u8]) -> Result<(Packed, usize), FontRefusal>
+    ensures value { GivesFont
+        (λ found. (found.0, found.1))
+        result
+        (counted_private plain.now) }
+    ensures within { IfOk result (λ found. found.1 ≤ length plain.now) }
+{
+    let lead = leading_bytes(plain)?;
+    let settings = Settings {
+        operator: reading_operator(plain),
+        lead,
+    };
+    let mut text = Packed::new(alloc);
+    let rest = push_private(alloc, &mut text, &settings, plain)?;
+    text.check_sections()?;
+    Ok((text, plain.len() - rest.len()))
+}
+
+/// The lines of an encrypted part in binary whose file has segments, and those of the tail. The
+/// plain bytes take the place of the encrypted ones.
+fn packed_binary(alloc: Global, coded: &mut [u8], tail: &[u8]) -> Result<Packed, FontRefusal>
+    ensures { GivesFont
+        (λ text. text)
+        result
+        (segmented_source tail.now (decrypted_private coded.old)) }
+{
+    decipher_private(coded);
+    let (text, _count) = packed_private(alloc, past_lead(coded))?;
+    let mut text = text;
+    add_tail(alloc, &mut text, tail)?;
+    Ok(text)
+}
+
+/// The lines of an encrypted part in binary whose file has no segments, and those of what stands
+/// after it. The plain bytes take the place of the encrypted ones until the private text is read.
+fn packed_flat(alloc: Global, coded: &mut [u8]) -> Result<Packed, FontRefusal>
+    ensures { GivesFont (λ text. text) result (flat_source coded.old) }
+{
+    decipher_private(coded);
+    let (text, count) = packed_private(alloc, past_lead(coded))?;
+    encipher_private(coded);
+    let mut text = text;
+    add_tail(alloc, &mut text, past(coded, EEXEC_LEAD + count))?;
+    Ok(text)
+}
+
+/// The lines of an encrypted part that stands after so many bytes of a file without segments, and
+/// those of what stands after it. Of binary bytes it takes no copy.
+
+fn packed_alone(
+    alloc: Global,
+    clear: &mut [u8],
+    len: usize,
+    tail: &[u8],
+) -> Result<Packed, FontRefusal>
+    requires { len ≤ length clear.now }
+    ensures { GivesFont
+        (λ text. text)
+        result
+        (source_onto []
+        (record { clear = clear.old; coded = []; tail = tail.now })
+        (past_spaces (drop len clear.old))) }
+{
+    let place = len + space_len(past(clear, len));
+    let coded = past(clear, place);
+    if is_hexadecimal(coded) {
+        let parts = LentParts {
+            clear,
+            coded: coded.split_at(0).0,
+            tail,
+        };
+        return packed_source(alloc, &parts, coded);
+    }
+    packed_flat(alloc, clear.split_at_mut(place).1)
+}
+
+/// The lines of an encrypted part of a file with segments, which begins after blanks, and those of
+/// the tail. Of binary bytes it takes no copy.
+fn packed_behind(alloc: Global, parts: &LentParts, bytes: &mut [u8]) -> Result<Packed, FontRefusal>
+    requires { 0 < length parts.now.coded.now }
+    ensures { GivesFont
+        (λ text. text)
+        result
+        (source_onto [] (lent_parts parts.now) (past_spaces bytes.old)) }
+{
+    let coded = past_spaces(bytes);
+    if is_hexadecimal(coded) {
+        return packed_source(alloc, parts, coded);
+    }
+    let place = space_len(bytes);
+    packed_binary(alloc, bytes.split_at_mut(place).1, parts.tail)
+}
+
+/// The lines of an encrypted part whose beginning stands after the eexec line, and those of the
+/// tail.
+fn packed_joined(
+    alloc: Global,
+    clear: &[u8],
+    after: &[u8],
+    coded: &[u8],
+    tail: &[u8],
+) -> Result<Packed, FontRefusal>
+    requires { 0 < length coded.now }
+    ensures { GivesFont
+        (λ text. text)
+        result
+        (source_onto []
+        (record { clear = clear.now; coded = coded.now; tail = tail.now })
+        (past_spaces (after.now ++ coded.now))) }
+{
+    let bytes = joined_bytes(alloc, after, coded)?;
+    let mut bytes = bytes;
+    let parts = LentParts { clear, coded, tail };
+    packed_behind(alloc, &parts, &mut bytes)
+}
+
+/// The lines of an encrypted part that begins with its own segments, and those of the tail. Of
+/// binary bytes it takes no copy.
+fn packed_in_segments(
+    alloc: Global,
+    clear: &[u8],
+    coded: &mut [u8],
+    tail: &[u8],
+) -> Result<Packed, FontRefusal>
+    requires { 0 < length coded.now }
+    ensures { GivesFont
+        (λ text. text)
+        result
+        (source_onto []
+        (record { clear = clear.now; coded = coded.old; tail = tail.now })
+        (past_spaces coded.old)) }
+{
+    let place = space_len(coded);
+    let front = past(coded, place);
+    if is_hexadecimal(front) {
+        let parts = LentParts { clear, coded, tail };
+        return packed_source(alloc, &parts, front);
+    }
+    packed_binary(alloc, coded.split_at_mut(place).1, tail)
+}
+
+/// The lines of an encrypted part, which begins after so many bytes of the clear text or with its
+/// own segments, and those of the tail.
+#[tactic(auto, using(crate::proofs::BinaryLaws::coded_on_line))]
+fn packed_coded(
+    alloc: Global,
+    clear: &mut [u8],
+    len: usize,
+    coded: &mut [u8],
+    tail: &[u8],
+) -> Result<Packed, FontRefusal>
+    requires { len ≤ length clear.now }
+    ensures { GivesFont
+        (λ text. text)
+        result
+        (source_onto []
+        (record { clear = clear.old; coded = coded.old; tail = tail.now })
+        (past_spaces (drop len clear.old ++ coded.old))) }
+{
+    if coded.is_empty() {
+        return packed_alone(alloc, clear, len, tail);
+    }
+    let after = past(clear, len);
+    if past_spaces(after).is_empty() {
+        return packed_in_segments(alloc, clear, coded, tail);
+    }
+    packed_joined(alloc, clear, after, coded, tail)
+}
+
+/// The source of the parts of a file. Of the clear text and the encrypted part nothing is known
+/// afterwards.
+#[tactic(auto, using(crate::proofs::Sources::source_same))]
+fn source_of_parts(
+    alloc: Global,
+    clear: &mut [u8],
+    coded: &mut [u8],
+    tail: &[u8],
+) -> Result<FontSource, FontRefusal>
+    ensures { GivesFont
+        (λ text. text)
+        result
+        (source_of (record { clear = clear.old; coded = coded.old; tail = tail.now })
+        (after_eexec clear.old)) }
+{
+    let Some(after) = after_eexec(clear) else {
+        check_kind(clear)?;
+        return Err(FontRefusal::from(FontCode::D1));
+    };
+    let len = clear.len() - after.len();
+    let clear_lines = clear.split_at(len).0;
+    check_kind(clear_lines)?;
+    let mut front = Vec::new(alloc);
+    push_lines_of(&mut front, clear_lines)?;
+    let lines = packed_coded(alloc, clear, len, coded, tail)?;
+    let known = known_words(alloc)?;
+    Ok(FontSource {
+        front,
+        lines,
+        known,
+    })
+}
+
+/// The source of a file with segments, whose memory is given back when they are joined.
+#[tactic(auto, unfolding(crate::specs::Disassembly::disassembled, crate::specs::SegmentsRead::font_parts))]
+fn source_of_segments(alloc: Global, file: Vec<u8>) -> Result<FontSource, FontRefusal>
+    requires { begins_with marker file.items ≡ true }
+    ensures { GivesFont (λ text. text) result (disassembled file.items) }
+{
+    let JoinedParts { clear, coded, tail } = segmented_parts(alloc, &file)?;
+    drop(file);
+    let mut clear = clear;
+    let mut coded = coded;
+    source_of_parts(alloc, &mut clear, &mut coded, &tail)
+}
+
+/// The source of a font's file, of whatever segments.
+#[tactic(auto, unfolding(crate::specs::Disassembly::disassembled, crate::specs::SegmentsRead::font_parts))]
+fn source_of_file(alloc: Global, file: Vec<u8>) -> Result<FontSource, FontRefusal>
+    ensures { GivesFont (λ text. text) result (disassembled file.items) }
+{
+    if has_segments(&file) {
+        return source_of_segments(alloc, file);
+    }
+    let mut file = file;
+    let mut none = Vec::new(alloc);
+    source_of_parts(alloc, &mut file, &mut none, b"")
+}
+
+/// The source of a font's file, as `disassemble` gives it, in less memory than its text has: about
+/// that of the file, which is given back. Of the encrypted part it takes no copy where it is binary
+/// and begins with its own segments, or the file has none.
+#[tactic(auto, unfolding(crate::specs::Disassembly::disassembled, crate::specs::SegmentsRead::font_parts))]
+pub fn read_font(alloc: Global, file: Vec<u8>) -> Result<FontSource, FontRefusal>
+    ensures { GivesFont (λ text. text) result (disassembled file.items) }
+{
+    let mut file = file;
+    let Some((text_len, binary_len)) = front_lens(&file) else {
+        return source_of_file(alloc, file);
+    };
+    let behind = file.split_at(HEADS_LEN + text_len + binary_len).1;
+    let Some(tail) = text_left(alloc, file.len(), behind)? else {
+        return source_of_file(alloc, file);
+    };
+    let (front, back) = file.split_at_mut(HEADS_LEN + text_len);
+    let clear = front.split_at_mut(HEAD_LEN).1.split_at_mut(text_len).0;
+    source_of_parts(alloc, clear, back.split_at_mut(binary_len).0, &tail)
+}
