@@ -37,10 +37,15 @@ def put(verb, at, turn):
 def kinds(glyphs):
     """By its name, how many edits a text counts as, and the text of a turn."""
     midst = glyphs // 2
+
+    def moved(turn):
+        at = midst + turn % (midst // 2)
+        return f"remove glyph {name(at)}\n" + put("add", at, turn)
+
     return {
         "replace": (1, lambda turn: put("replace", midst, turn)),
         "last": (2, lambda turn: put("add", glyphs, turn) + f"remove glyph {name(glyphs)}\n"),
-        "midst": (2, lambda turn: f"remove glyph {name(midst + turn % midst // 2)}\n" + put("add", midst + turn % midst // 2, turn)),
+        "midst": (2, moved),
         "begin, abort": (1, lambda turn: "begin\nabort\n"),
         "a batch of one": (1, lambda turn: "begin\n" + put("replace", midst, turn) + "commit\n"),
         "a batch of two": (1, lambda turn: "begin\n" + put("replace", midst, turn) + put("replace", midst, turn + 1) + "commit\n"),
