@@ -9,6 +9,7 @@ use Rattle.t1_frac.specs.contracts.fault.Code.{the_type}
 use Rattle.t1_frac.specs.declared.fault.Code.{Code}
 use Rattle.t1_font.specs.KeptBodies.{plain_bodies}
 use Rattle.t1_chain.specs.Machine.{failure_seen}
+use Rattle.t1_run.specs.RunKeys.{has_number}
 use Rattle.t1_faults.specs.declared.call_chains.CallChain.{CallChain}
 use Rattle.t1_faults.specs.declared.found.FoundFault.{FoundFault}
 use Rattle.t1_faults.specs.declared.failed_run.FailedRun.{FailedRun as FailedFields}
