@@ -4,6 +4,7 @@ pub mod Drafting
 pub mod Encrypting
 pub mod Gathering
 pub mod HeldLaws
+pub mod HintLaws
 pub mod Marking
 pub mod Members
 pub mod Ordering

@@ -17,13 +17,13 @@ mod edits;
 mod entries;
 mod files;
 mod held;
+mod hints;
 pub mod laws;
-mod near;
 mod preparing;
 
 pub use batch::{Batch, EditedEntry, batch_changes};
 pub use edits::Edits;
 pub use files::write_held_file;
 pub use held::{Held, ReadyHeld, held_metrics, held_of, settle};
-pub use near::place_near;
+pub use hints::hint_of;
 pub use preparing::prepare_edits;

@@ -6,6 +6,7 @@ pub mod EditedCountLaws
 pub mod EditedLeadLaws
 pub mod EditingRows
 pub mod EntryFoundLaws
+pub mod HintLaws
 pub mod ItemPlaceLaws
 pub mod ItemsAgainLaws
 pub mod LeadEditLaws

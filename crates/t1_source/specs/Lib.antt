@@ -2,5 +2,6 @@ pub mod Changes
 pub mod Codes
 pub mod EditOutcomes
 pub mod Editing
+pub mod Hints
 pub mod Leads
 pub mod WellFormed

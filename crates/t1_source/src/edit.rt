@@ -1,6 +1,8 @@
 //! Edits of a source and its pairs, and the rules that they keep.
 
-use std::alloc::{AllocError, AllocFailed};
+ghost use Rattle.std.specs.Prelude.{◌≡◌, IfOk};
+
+use std::alloc::{AllocError, AllocFailed, Global};
 use t1_frac::{Bytes, Fault};
 use thiserror::Error;
 
@@ -25,6 +27,58 @@ pub enum Edit {
     /// The left name, the right name and the value.
     Kern(Bytes, Bytes, i64),
     Unkern(Bytes, Bytes),
+}
+
+/// Copies of two texts.
+fn copied_both(alloc: Global, first: &Bytes, second: &Bytes) -> Result<(Bytes, Bytes), AllocError>
+    ensures { IfOk result (λ copies. copies ≡ (first.now, second.now)) }
+{
+    let first = Bytes::copied(alloc, first.as_slice())?;
+    let second = Bytes::copied(alloc, second.as_slice())?;
+    Ok((first, second))
+}
+
+impl Edit {
+    /// A copy.
+    pub fn copied(&self, alloc: Global) -> Result<Edit, AllocError>
+        ensures { IfOk result (λ copy. copy ≡ self.now) }
+    {
+        match self {
+            Edit::ReplaceGlyph(name, body) => {
+                let (name, body) = copied_both(alloc, name, body)?;
+                Ok(Edit::ReplaceGlyph(name, body))
+            }
+            Edit::AddGlyph(name, body) => {
+                let (name, body) = copied_both(alloc, name, body)?;
+                Ok(Edit::AddGlyph(name, body))
+            }
+            Edit::RemoveGlyph(name) => Ok(Edit::RemoveGlyph(Bytes::copied(
+                alloc,
+                name.as_slice(),
+            )?)),
+            Edit::ReplaceSubr(number, body) => {
+                let body = Bytes::copied(alloc, body.as_slice())?;
+                Ok(Edit::ReplaceSubr(*number, body))
+            }
+            Edit::AddSubr(number, body) => {
+                Ok(Edit::AddSubr(*number, Bytes::copied(alloc, body.as_slice())?))
+            }
+            Edit::RemoveSubr(number) => Ok(Edit::RemoveSubr(*number)),
+            Edit::Encode(code, name) => {
+                Ok(Edit::Encode(*code, Bytes::copied(alloc, name.as_slice())?))
+            }
+            Edit::Unencode(code) => Ok(Edit::Unencode(*code)),
+            Edit::LenIv(number) => Ok(Edit::LenIv(*number)),
+            Edit::Kern(left, right, value) => {
+                let (left, right) = copied_both(alloc, left, right)?;
+                Ok(Edit::Kern(left, right, *value))
+            }
+            Edit::Unkern(left, right) => {
+                let (left, right) = copied_both(alloc, left, right)?;
+                Ok(Edit::Unkern(left, right))
+            }
+        }
+    }
 }
 
 /// The rule that an edit breaks, by the code that is printed.

@@ -8,8 +8,8 @@
 //!
 //! For users: [`read_source`]; a [`Source`], its text and its parts, with [`Item`];
 //! [`Source::edited`], with [`Edit`], [`Rule`] and [`Cause`]. For the crates above:
-//! [`Source::prepared`], [`Source::commit`] and [`Change`], [`Source::names_by_code`], and
-//! [`body_words`]. The pairs that an edit takes are those of `t1_pairs`.
+//! [`Source::prepared`], [`Source::prepared_near`] with [`Hint`], [`Source::commit`] and [`Change`],
+//! [`Source::names_by_code`], and [`body_words`]. The pairs that an edit takes are those of `t1_pairs`.
 #![tactic(auto)]
 
 mod codes;
@@ -19,6 +19,6 @@ pub mod laws;
 mod source;
 
 pub use edit::{Cause, Edit, Rule};
-pub use editing::{Change, body_words};
+pub use editing::{Change, Hint, body_words};
 pub use source::{Source, read_source};
 pub use t1_parts::Item;

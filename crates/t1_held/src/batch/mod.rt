@@ -43,7 +43,7 @@ ghost use Rattle.t1_held.specs.Drafting.{Drafts, IsDraftOf};
 
 use crate::batch::entries::edited_entry;
 use std::alloc::{AllocError, Global};
-use t1_source::{Cause, Edit};
+use t1_source::{Cause, Edit, Hint};
 
 /// The entry that an edit names, where it names one, and room for it among those that were noted.
 fn entry_with_room(
@@ -95,7 +95,9 @@ impl<'a> Batch<'a> {
         ensures edited { Drafts self.old edit.now result self.new }
         ensures draft { (s : SourceParts) → IsDraftOf s self.old → IsDraftOf s self.new }
     {
-        let change = self.source.prepared_near(&self.pairs, edit, near)?;
+        let change = self
+            .source
+            .prepared_near(&self.pairs, edit, Hint::Near(near))?;
         match entry_with_room(alloc, &mut self.entries, edit) {
             Ok(entry) => {
                 self.source.commit(&mut self.pairs, change)?;

@@ -10,11 +10,13 @@ ghost use Rattle.t1_source.specs.Editing.{added_glyph, among_glyphs_items, besid
 ghost use Rattle.t1_source.specs.EditOutcomes.{Edits};
 ghost use Rattle.t1_source.specs.Editing.{body_words, closing_among, removed_glyph, replaced_glyph};
 ghost use Rattle.t1_source.specs.Editing.{through_last};
+ghost use Rattle.t1_source.specs.Hints.{IsTrueOfGlyph};
 ghost use Rattle.t1_pairs.specs.declared.pairs.Pair.{Pair};
 
 use crate::edit::{Cause, Rule};
 use crate::editing::change::Change;
 use crate::editing::entries::{closing_at, closing_of};
+use crate::editing::hint::Hint;
 use crate::editing::places::{entry_at, has_entry, through_kind};
 use crate::editing::rules::{body_words, good_body, good_name, keeps};
 use crate::source::Source;
@@ -31,11 +33,15 @@ fn glyph_at(source: &Source, near: usize, name: &[u8]) -> Option<usize>
     entry_at(source, near, &EntryKey::Name(name))
 }
 
-/// Whether the glyph of this name is there.
-fn has_glyph(items: &Items, name: &[u8]) -> bool
+/// Whether the glyph of this name is there, which isn't looked for where a hint tells it to be new.
+fn has_glyph(items: &Items, hint: Hint, name: &[u8]) -> bool
+    requires { IsTrueOfGlyph hint name.now items.now }
     ensures { result ≡ list_any (is_glyph name.now) items.now }
 {
-    has_entry(items, &EntryKey::Name(name))
+    match hint {
+        Hint::Near(_) => has_entry(items, &EntryKey::Name(name)),
+        Hint::NewGlyph => false,
+    }
 }
 
 /// Whether an item is a glyph.
@@ -112,9 +118,15 @@ pub fn replacing_glyph<'a>(
     Ok(Change::PutItem(at, glyph))
 }
 
-/// A new glyph.
+/// A new glyph, which isn't looked for where a hint tells it to be new.
 #[tactic(auto, unfolding(crate::specs::Editing::added_glyph))]
-pub fn adding_glyph<'a>(source: &Source<'a>, name: &[u8], body: &[u8]) -> Result<Change<'a>, Cause>
+pub fn adding_glyph<'a>(
+    source: &Source<'a>,
+    hint: Hint,
+    name: &[u8],
+    body: &[u8],
+) -> Result<Change<'a>, Cause>
+    requires { IsTrueOfGlyph hint name.now source.now.items }
     ensures change { (k : List Pair)
         → Edits (λ change. changed change source.now k) result
         (beside_pairs k (added_glyph source.now name.now body.now)) }
@@ -122,7 +134,7 @@ pub fn adding_glyph<'a>(source: &Source<'a>, name: &[u8], body: &[u8]) -> Result
 {
     good_name(name)?;
     good_body(body)?;
-    keeps(Rule::E2, !has_glyph(source.items(), name))?;
+    keeps(Rule::E2, !has_glyph(source.items(), hint, name))?;
     let closing = glyph_closing(source.items());
     let glyph = glyph_of(source.alloc(), name, body, closing)?;
     Ok(Change::InsertItem(through_glyphs(source.items()), glyph))

@@ -4,6 +4,7 @@
 mod change;
 mod entries;
 mod glyphs;
+mod hint;
 mod kerning;
 mod leads;
 mod places;
@@ -16,6 +17,7 @@ ghost use Rattle.std.specs.Prelude.{unwrap_or};
 ghost use Rattle.t1_source.specs.Changes.{changed, Fits, Suits, takes_room};
 ghost use Rattle.t1_source.specs.Editing.{edited};
 ghost use Rattle.t1_source.specs.EditOutcomes.{Edits};
+ghost use Rattle.t1_source.specs.Hints.{IsTrueOfEdit};
 
 use crate::edit::{Cause, Edit};
 use crate::editing::glyphs::{adding_glyph, removing_glyph, replacing_glyph};
@@ -25,6 +27,7 @@ use crate::editing::slots::{encoding_code, unencoding_code};
 use crate::editing::subrs::{adding_subr, removing_subr, replacing_subr};
 use crate::source::Source;
 pub use change::Change;
+pub use hint::Hint;
 pub use rules::body_words;
 use std::alloc::AllocError;
 use t1_pairs::Pairs;
@@ -56,23 +59,27 @@ fn committed<'a>(
 }
 
 impl<'a> Source<'a> {
-    /// What an edit changes, or the first rule that it breaks. An entry that it replaces or takes
-    /// out is looked for first among the few items before a place.
-    #[tactic(auto, unfolding(crate::specs::Editing::edited))]
-    fn found_change(&self, pairs: &Pairs, edit: &Edit, near: usize) -> Result<Change<'a>, Cause>
+    /// What an edit changes, or the first rule that it breaks. Its entry is looked for by a hint.
+    #[tactic(auto, using(crate::proofs::HintLaws::added), unfolding(crate::specs::Editing::edited))]
+    fn found_change(&self, pairs: &Pairs, edit: &Edit, hint: Hint) -> Result<Change<'a>, Cause>
+        requires { IsTrueOfEdit hint edit.now self.now }
         ensures change { Edits (λ change. changed change self.now pairs.now) result
             (edited self.now pairs.now edit.now) }
         ensures fits { IfOk result (λ change. Fits change self.now pairs.now) }
     {
         match edit {
             Edit::ReplaceGlyph(name, body) => {
-                replacing_glyph(self, near, name.as_slice(), body.as_slice())
+                replacing_glyph(self, hint.near(), name.as_slice(), body.as_slice())
             }
-            Edit::AddGlyph(name, body) => adding_glyph(self, name.as_slice(), body.as_slice()),
-            Edit::RemoveGlyph(name) => removing_glyph(self, near, name.as_slice()),
-            Edit::ReplaceSubr(number, body) => replacing_subr(self, near, *number, body.as_slice()),
+            Edit::AddGlyph(name, body) => {
+                adding_glyph(self, hint, name.as_slice(), body.as_slice())
+            }
+            Edit::RemoveGlyph(name) => removing_glyph(self, hint.near(), name.as_slice()),
+            Edit::ReplaceSubr(number, body) => {
+                replacing_subr(self, hint.near(), *number, body.as_slice())
+            }
             Edit::AddSubr(number, body) => adding_subr(self, *number, body.as_slice()),
-            Edit::RemoveSubr(number) => removing_subr(self, near, *number),
+            Edit::RemoveSubr(number) => removing_subr(self, hint.near(), *number),
             Edit::Encode(code, name) => encoding_code(self, *code, name.as_slice()),
             Edit::Unencode(code) => unencoding_code(self, *code),
             Edit::LenIv(number) => putting_lead(self, *number),
@@ -90,24 +97,21 @@ impl<'a> Source<'a> {
             (edited self.now pairs.now edit.now) }
         ensures serves { IfOk result (λ change. Suits change self.now pairs.now) }
     {
-        self.prepared_near(pairs, edit, 0)
+        self.prepared_near(pairs, edit, Hint::Near(0))
     }
 
-    /// What `prepared` gives. An entry that the edit replaces or takes out is looked for first
-    /// among the few items before a place, and the others are gone over only where it isn't there.
-    pub fn prepared_near(
-        &self,
-        pairs: &Pairs,
-        edit: &Edit,
-        near: usize,
-    ) -> Result<Change<'a>, Cause>
+    /// What `prepared` gives. The entry that the edit replaces or takes out is looked for first
+    /// among the few items before the place of a hint, and the others are gone over only where it
+    /// isn't there; a glyph that the hint tells to be new isn't looked for.
+    pub fn prepared_near(&self, pairs: &Pairs, edit: &Edit, hint: Hint) -> Result<Change<'a>, Cause>
+        requires { IsTrueOfEdit hint edit.now self.now }
         ensures change { Edits (λ change. changed change self.now pairs.now) result
             (edited self.now pairs.now edit.now) }
         ensures serves { IfOk result (λ change. Suits change self.now pairs.now) }
     {
         let _items = self.kept_items();
         let _count = pairs.len();
-        let change = self.found_change(pairs, edit, near)?;
+        let change = self.found_change(pairs, edit, hint)?;
         Ok(change)
     }
 

@@ -1,8 +1,11 @@
-//! Near which place an entry stands among the items of a source.
-ghost use Rattle.std.specs.Prelude.{◌≤◌};
+//! What is known of the entry that an edit names, by what is held of a source.
+ghost use Rattle.t1_parts.specs.SourceParts.{SourceParts};
+ghost use Rattle.t1_source.specs.Hints.{IsTrueOfEdit};
+ghost use Rattle.t1_held.specs.Held.{IsHeld};
 
 use crate::held::Held;
-use t1_source::Edit;
+use t1_run::Bodies;
+use t1_source::{Edit, Hint};
 
 /// How many glyphs are kept from the glyph of a name on, in the order of the source.
 fn glyphs_from(held: &Held, name: &[u8]) -> Option<usize> {
@@ -36,11 +39,22 @@ fn kept_from(held: &Held, edit: &Edit) -> Option<usize> {
 /// Before which place the entry is to be looked for that an edit replaces or takes out, among so
 /// many items: from it on stand the entries that follow it, and the last lines of the private part.
 /// Time alone hangs on it.
-pub fn place_near(held: &Held, len: usize, edit: &Edit) -> usize
-    ensures { result ≤ len }
-{
+fn place_near(held: &Held, len: usize, edit: &Edit) -> usize {
     match kept_from(held, edit) {
         Some(from) => len - from.saturating_sub(1).min(len),
         None => 0,
     }
+}
+
+/// What is known of the entry that an edit names, in a source of so many items of which this is
+/// held: near which place it stands, or that a glyph is new.
+pub fn hint_of(held: &Held, len: usize, edit: &Edit) -> Hint
+    ensures { (s : SourceParts) → IsHeld s held.now → IsTrueOfEdit result edit.now s }
+{
+    if let Edit::AddGlyph(name, _) = edit {
+        if !held.records.has_glyph(name.as_slice()) {
+            return Hint::NewGlyph;
+        }
+    }
+    Hint::Near(place_near(held, len, edit))
 }
