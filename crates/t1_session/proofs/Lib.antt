@@ -1,3 +1,4 @@
+pub mod BatchLaws
 pub mod ClosureLaws
 pub mod Conversations
 pub mod Delivering

@@ -1,3 +1,4 @@
+pub mod Commits
 pub mod Conversation
 pub mod Delivery
 pub mod Dialogues

@@ -18,6 +18,7 @@ mod error;
 pub mod laws;
 mod measuring;
 mod metrics_line;
+mod open_batch;
 mod performer;
 mod refused;
 mod serving;

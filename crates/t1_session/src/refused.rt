@@ -15,6 +15,7 @@ ghost use Rattle.t1_session.specs.Unnoted.{faulty_batch};
 ghost use Rattle.t1_session.specs.Refusing.{edited_lines, refused_text, rule_line};
 ghost use Rattle.t1_session.specs.KeptRefusals.{refused_after};
 ghost use Rattle.t1_session.specs.KeptRefusals.{fault_of_edited, IsEditOfHeld};
+ghost use Rattle.t1_session.specs.Commits.{RefusesSingle};
 
 use std::alloc::{AllocError, Global};
 use std::mem;
@@ -243,6 +244,28 @@ pub fn refused_batch<'a>(refusal: Refusal, made: Source<'a>) -> (Cause, Option<R
     match refusal {
         Refusal::Fault(fault) => (Cause::Fault(fault), Some(Refused::Batch(made))),
         Refusal::Memory => (Cause::Memory, None),
+    }
+}
+
+/// Why a batch of one edit is refused whose edit, which breaks no rule, is refused for this cause;
+/// and the source that the edit makes, where that has a fault.
+pub fn refused_single<'a>(
+    source: &Source<'a>,
+    pairs: &Pairs,
+    edit: &Edit,
+    cause: Cause,
+) -> (Cause, Option<Refused<'a>>)
+    ensures { (made : SourceParts × List Pair)
+        → edited source.now pairs.now edit.now ≡ Ok made
+        → RefusesSingle made.0 cause result.0 result.1 }
+{
+    let Cause::Fault(fault) = cause else {
+        return (cause, None);
+    };
+    match source.edited(pairs, edit) {
+        Ok((made, _pairs)) => (Cause::Fault(fault), Some(Refused::Batch(made))),
+        // It breaks no rule.
+        Err(_) => (Cause::Memory, None),
     }
 }
 

@@ -1,4 +1,5 @@
 //! A session: a font that is kept current under edits.
+use crate::open_batch::OpenBatch;
 use crate::refused::Refused;
 use std::alloc::Global;
 use std::marker::Model;
@@ -18,7 +19,7 @@ pub struct Session<'a> {
     pairs: Pairs,
     held: Held,
     meter: Meter,
-    batch: Option<Batch<'a>>,
+    batch: OpenBatch<'a>,
     refused: Option<Refused<'a>>,
 }
 
@@ -27,22 +28,28 @@ impl<'a> Model for Session<'a> {
     ghost use Rattle.t1_cache.specs.Recorded.{kept_of};
     ghost use Rattle.t1_held.specs.Held.{IsHeld};
     ghost use Rattle.t1_session.specs.State.{SessionView};
-    ghost use Rattle.t1_session.specs.OpenBatch.{IsOpenOn};
+    ghost use Rattle.t1_session.specs.OpenBatch.{open_draft, IsOpenOn};
     ghost use Rattle.t1_session.specs.Users.{user_table};
 
     ghost Value = { SessionView };
 
     ghost view = { λ s. record {
-      state = record { source = s.source; pairs = s.pairs; batch = s.batch; refused = s.refused };
+      state = record {
+        source = s.source;
+        pairs = s.pairs;
+        batch = open_draft s.source s.pairs s.batch;
+        refused = s.refused;
+      };
       kept = map kept_of s.held.records.glyphs.entries;
       users = user_table s.held.records;
       runs = s.meter;
     } };
 
-    ghost invariant = { λ s. IsHeld s.source s.held × IsOpenOn s.source s.batch };
+    ghost invariant = { λ s. IsHeld s.source s.held × IsOpenOn s.source s.pairs s.batch };
 }
 
 ghost use Rattle.std.specs.Prelude.{◌≡◌, ◌≤◌, ◌-◌, ◌^◌, Ok, IfOk, None, Some, is_some, length, map};
+ghost use Rattle.std.specs.Prelude.{List};
 ghost use Rattle.std.specs.Prelude.{option_map, true};
 ghost use Rattle.t1_frac.specs.Outcome.{Gives};
 ghost use Rattle.t1_source.specs.Changes.{changed, Suits};
@@ -56,7 +63,11 @@ ghost use Rattle.t1_font.specs.RunCounts.{counted};
 ghost use Rattle.t1_font.specs.SourceChecks.{measured_source, source_check};
 ghost use Rattle.t1_cache.specs.EditKeys.{named};
 ghost use Rattle.t1_held.specs.Batch.{entry_edit, keys};
-ghost use Rattle.t1_held.specs.Drafting.{IsEditedBy};
+ghost use Rattle.t1_held.specs.Drafting.{IsDraftOf, IsEditedBy};
+ghost use Rattle.t1_parts.specs.SourceParts.{SourceParts};
+ghost use Rattle.t1_pairs.specs.declared.pairs.Pair.{Pair};
+ghost use Rattle.t1_session.specs.OpenBatch.{draft_of_edit};
+ghost use Rattle.t1_session.specs.Commits.{draft_of_none, Commits};
 ghost use Rattle.t1_commands.specs.declared.command.SessionCommand.TheVariants as commands;
 ghost use Rattle.t1_commands.specs.declared.print.Print.TheVariants as prints;
 ghost use Rattle.t1_session.specs.FromScratch.{blocks_from_scratch, encoding_from_scratch};
@@ -83,7 +94,7 @@ ghost use Rattle.t1_session.specs.Users.{AreUsers};
 use crate::encoding::encoding_text;
 use crate::entries::{entry_text, subr_numbered};
 use crate::metrics_line::metrics_line;
-use crate::refused::{keep, refused_batch, refused_text};
+use crate::refused::{keep, refused_batch, refused_single, refused_text};
 use std::alloc::AllocError;
 use std::io::Write;
 use std::mem;
@@ -92,13 +103,13 @@ use t1_commands::{Answer, PfaData, PfbData, Print, Show, block_size, put_answer}
 use t1_font::{MeasuredGlyphs, afm_of_source, usage_text, write_source_afm};
 use t1_frac::{Bytes, Refusal};
 use t1_held::{
-    EditedEntry, Edits, held_metrics, held_of, place_near, prepare_edits, settle, write_held_file,
+    EditedEntry, Edits, held_metrics, held_of, hint_of, prepare_edits, settle, write_held_file,
 };
 use t1_outline::glyph_outline;
 use t1_outline::laws::a_source_shows_its_outlines;
 use t1_pairs::laws::text_of_pairs_read;
 use t1_refusal::glyph_named;
-use t1_source::laws::text_of_source_read;
+use t1_source::laws::{source_is_well_formed, text_of_source_read};
 use t1_source::{Cause, Change, Edit, Rule};
 
 /// Why an edit is refused whose source is refused.
@@ -130,7 +141,7 @@ impl<'a> Session<'a> {
             pairs,
             held,
             meter,
-            batch: None,
+            batch: OpenBatch::Closed,
             refused: None,
         };
         session.records_are_right();
@@ -142,7 +153,7 @@ impl<'a> Session<'a> {
     pub fn in_batch(&self) -> bool
         ensures { result ≡ is_some self.now.state.batch }
     {
-        self.batch.is_some()
+        self.batch.is_open()
     }
 
     /// How many runs of glyphs were made since the session was opened, or 2^64 - 1 where they are
@@ -193,7 +204,7 @@ impl<'a> Session<'a> {
         }
     }
 
-    /// Opens a batch, on a copy of the source and of the pairs; E11 where one is open.
+    /// Opens a batch; E11 where one is open. Its second edit copies the source and the pairs.
     pub fn begin(&mut self) -> Result<(), Cause>
         ensures takes { Takes self.old.state commands.Begin result self.new.state }
         ensures kept { AreKept self.old self.new }
@@ -209,11 +220,10 @@ impl<'a> Session<'a> {
         ensures takes { TakesUnnoted self.old.state commands.Begin result self.new.state }
         ensures kept { AreKept self.old self.new }
     {
-        if self.batch.is_some() {
+        if self.batch.is_open() {
             return Err(Cause::Rule(Rule::E11));
         }
-        text_of_source_read(&self.source);
-        self.batch = Some(Batch::of(self.alloc, &self.source, &self.pairs)?);
+        drop(mem::replace(&mut self.batch, OpenBatch::Unedited));
         Ok(())
     }
 
@@ -251,10 +261,11 @@ impl<'a> Session<'a> {
         ensures takes { TakesUnnoted self.old.state commands.Abort result self.new.state }
         ensures kept { AreKept self.old self.new }
     {
-        match self.batch.take() {
-            Some(_) => Ok(()),
-            None => Err(Cause::Rule(Rule::E12)),
+        if !self.batch.is_open() {
+            return Err(Cause::Rule(Rule::E12));
         }
+        drop(mem::replace(&mut self.batch, OpenBatch::Closed));
+        Ok(())
     }
 
     /// Keeps what was refused by what is answered, or forgets what was refused before; this is what
@@ -275,13 +286,51 @@ impl<'a> Session<'a> {
         ensures runs { RerunsByTest (edition self.old.state commands.Commit) self.old result.0
             self.new }
     {
-        match self.batch.take() {
-            Some(batch) => {
-                let (source, pairs, entries) = batch.into_parts();
-                self.accept(source, pairs, entries)
-            }
-            None => (Err(Cause::Rule(Rule::E12)), None),
+        match mem::replace(&mut self.batch, OpenBatch::Closed) {
+            OpenBatch::Closed => (Err(Cause::Rule(Rule::E12)), None),
+            OpenBatch::Unedited => self.commit_nothing(),
+            OpenBatch::Single(edit) => self.commit_single(&edit),
+            OpenBatch::Drafted(batch) => self.commit_drafted(batch),
         }
+    }
+
+    /// Commits a batch.
+    fn commit_drafted(&mut self, batch: Batch<'a>) -> (Result<(), Cause>, Option<Refused<'a>>)
+        requires none { self.old.state.batch ≡ None }
+        requires draft { IsDraftOf self.old.state.source batch }
+        ensures { Commits batch.entry self.old result.0 result.1 self.new }
+    {
+        let (source, pairs, entries) = batch.into_parts();
+        self.accept(source, pairs, entries)
+    }
+
+    /// Commits a batch without edits.
+    fn commit_nothing(&mut self) -> (Result<(), Cause>, Option<Refused<'a>>)
+        requires { self.old.state.batch ≡ None }
+        ensures { Commits (draft_of_none self.old.state) self.old result.0 result.1 self.new }
+    {
+        source_is_well_formed(&self.source);
+        match Batch::of(self.alloc, &self.source, &self.pairs) {
+            Ok(batch) => self.commit_drafted(batch),
+            Err(_) => (Err(Cause::Memory), None),
+        }
+    }
+
+    /// Commits a batch of one edit, as the edit is taken outside a batch. Only where its source has
+    /// a fault, that source is made.
+    fn commit_single(&mut self, edit: &Edit) -> (Result<(), Cause>, Option<Refused<'a>>)
+        requires none { self.old.state.batch ≡ None }
+        requires made { (made : SourceParts × List Pair)
+            × (edited self.old.state.source self.old.state.pairs edit.now ≡ Ok made) }
+        ensures { (made : SourceParts × List Pair)
+            → edited self.old.state.source self.old.state.pairs edit.now ≡ Ok made
+            → Commits (draft_of_edit edit.now made) self.old result.0 result.1 self.new }
+    {
+        if let Err(cause) = self.take(edit) {
+            let (cause, faulty) = refused_single(&self.source, &self.pairs, edit, cause);
+            return (Err(cause), faulty);
+        }
+        (Ok(()), None)
     }
 
     /// Takes an edit, or refuses it.
@@ -291,11 +340,13 @@ impl<'a> Session<'a> {
         ensures runs { RerunsByTest (edition self.old.state (commands.Edit edit.now)) self.old
             result self.new }
     {
-        let near = place_near(&self.held, self.source.items().len(), edit);
-        if let Some(batch) = &mut self.batch {
-            return batch.edit(self.alloc, edit, near);
+        let hint = hint_of(&self.held, self.source.items().len(), edit);
+        if self.batch.is_open() {
+            return self
+                .batch
+                .edit(self.alloc, &self.source, &self.pairs, edit, hint);
         }
-        let change = self.source.prepared_near(&self.pairs, edit, near)?;
+        let change = self.source.prepared_near(&self.pairs, edit, hint)?;
         self.make(edit, change)
     }
 

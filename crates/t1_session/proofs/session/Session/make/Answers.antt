@@ -9,6 +9,7 @@ use Rattle.t1_source.specs.declared.edit.Cause.{Cause}
 use Rattle.t1_source.specs.Changes.{changed, Suits}
 use Rattle.t1_source.specs.Editing.{edited}
 use Rattle.t1_session.specs.Machine.{judged}
+use Rattle.t1_session.specs.OpenBatch.{open_draft}
 use Rattle.t1_session.specs.Unnoted.{Took}
 use Rattle.t1_session.specs.State.{SessionView, SessionState}
 use Rattle.t1_session.proofs.RerunLaws.{edit_prepared, edit_spends, edit_unmade, renewing_runs}
@@ -36,7 +37,7 @@ returns-in_err-commit-clause-runs c =
 pub returns-in-Err-clause-took : goal.returns-in-Err-clause-took
 returns-in-Err-clause-took c =
     let s = c.self.inside in
-    let state : SessionState = record { source = s.source; pairs = s.pairs; batch = s.batch; refused = s.refused } in
+    let state : SessionState = record { source = s.source; pairs = s.pairs; batch = open_draft s.source s.pairs s.batch; refused = s.refused } in
     subst (λ (v : SessionView). Took {T = Unit {0}} v.state (judged v.state (changed c.args.change v.state.source v.state.pairs) (source_check (changed c.args.change v.state.source v.state.pairs).0)) true v.state (Err c.cause_of.result) state) c.self.view_is
     (subst (λ (cause : Cause). Took {T = Unit {0}} state (judged state (changed c.args.change s.source s.pairs) (source_check (changed c.args.change s.source s.pairs).0)) true state (Err cause) state) (sym c.cause_of.ensures)
     (refused_takes c.in-Err.refusal state (changed c.args.change s.source s.pairs) c.in-Err.ensures.checked
