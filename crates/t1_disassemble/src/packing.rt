@@ -5,7 +5,7 @@ ghost use Rattle.t1_text.specs.Lines.{begins_with, lines, joined};
 ghost use Rattle.t1_code.specs.Writing.{Puts, Writes, outlet};
 ghost use Rattle.t1_code.specs.Pfb.{marker};
 ghost use Rattle.t1_parts.specs.Parts.{tail_of};
-ghost use Rattle.t1_disassemble.specs.ClearPart.{clear_len};
+ghost use Rattle.t1_disassemble.specs.ClearPart.{clear_len, has_coded};
 ghost use Rattle.t1_disassemble.specs.Decipher.{decrypted_private};
 ghost use Rattle.t1_disassemble.specs.Digits.{digits_len};
 ghost use Rattle.t1_disassemble.specs.Disassembly.{source_of, disassembled};
@@ -293,6 +293,16 @@ fn packed_coded(
     packed_joined(alloc, clear, after, coded, tail)
 }
 
+/// Whether bytes of the encrypted part stand behind the eexec line of a clear text.
+fn has_coded(clear: &[u8]) -> bool
+    ensures { result ≡ has_coded (after_eexec clear.now) }
+{
+    match after_eexec(clear) {
+        Some(after) => !past_spaces(after).is_empty(),
+        None => false,
+    }
+}
+
 /// How many bytes of a clear text stand before those after its eexec line, or its fault.
 fn clear_len(clear: &[u8]) -> Result<usize, FontFault>
     ensures within { IfOk result (λ len. len ≤ length clear.now) }
@@ -377,6 +387,51 @@ fn digits_end(clear: &[u8], len: usize, coded: &[u8]) -> usize
     clear.len() + digits_len(coded)
 }
 
+/// The encrypted part of a file with segments in one piece, of which a beginning may stand after so
+/// many bytes of the clear text. The memory of the segments is given back.
+fn whole_coded(
+    alloc: Global,
+    clear: &[u8],
+    len: usize,
+    coded: Vec<u8>,
+) -> Result<Vec<u8>, AllocError>
+    ensures { IfOk result (λ whole. whole.items ≡ drop len clear.now ++ coded.items) }
+{
+    let after = past(clear, len);
+    if after.is_empty() {
+        return Ok(coded);
+    }
+    joined_bytes(alloc, after, &coded)
+}
+
+/// The source of the parts of a file with segments, of which the clear text is known to have so
+/// many bytes before those after its eexec line. The encrypted part is in memory once.
+fn source_of_joined(
+    alloc: Global,
+    clear: Vec<u8>,
+    len: usize,
+    coded: Vec<u8>,
+    tail: &[u8],
+) -> Result<FontSource, FontRefusal>
+    requires { len ≤ length clear.items }
+    ensures { GivesFont
+        (λ text. text)
+        result
+        (source_onto
+        (joined (lines (take len clear.items)))
+        (record { clear = clear.items; coded = coded.items; tail = tail.now })
+        (past_spaces (drop len clear.items ++ coded.items))) }
+{
+    let mut clear = clear;
+    if coded.as_slice().is_empty() {
+        let mut none = coded;
+        return source_behind(alloc, &mut clear, len, &mut none, tail);
+    }
+    let whole = whole_coded(alloc, &clear, len, coded)?;
+    let mut whole = whole;
+    source_behind(alloc, clear.split_at_mut(len).0, len, &mut whole, tail)
+}
+
 /// The source of a file with segments, whose memory is given back when they are joined.
 #[tactic(auto, unfolding(crate::specs::Disassembly::disassembled, crate::specs::SegmentsRead::font_parts))]
 fn source_of_segments(alloc: Global, file: Vec<u8>) -> Result<FontSource, FontRefusal>
@@ -394,9 +449,7 @@ fn source_of_segments(alloc: Global, file: Vec<u8>) -> Result<FontSource, FontRe
     // the only byte at which the encrypted part may have a fault
     let place = byte_place(&file, digits_end(&clear, len, &coded) as u64);
     drop(file);
-    let mut clear = clear;
-    let mut coded = coded;
-    match source_behind(alloc, &mut clear, len, &mut coded, &tail) {
+    match source_of_joined(alloc, clear, len, coded, &tail) {
         Ok(source) => Ok(source),
         Err(refusal) => Err(fault_moved(place, refusal)),
     }
@@ -417,7 +470,8 @@ fn source_of_file(alloc: Global, file: Vec<u8>) -> Result<FontSource, FontRefusa
 
 /// The source of a font's file, as `disassemble` gives it, in less memory than its text has: about
 /// that of the file, which is given back. Of the encrypted part it takes no copy where it is binary
-/// and begins with its own segments, or the file has none.
+/// and begins with its own segments, or the file has none; where it begins in a segment of text,
+/// the file is given back before it is copied.
 #[tactic(auto, unfolding(crate::specs::Disassembly::disassembled, crate::specs::SegmentsRead::font_parts))]
 pub fn read_font(alloc: Global, file: Vec<u8>) -> Result<FontSource, FontRefusal>
     ensures { GivesFont (λ text. text) result (disassembled file.items) }
@@ -427,6 +481,9 @@ pub fn read_font(alloc: Global, file: Vec<u8>) -> Result<FontSource, FontRefusal
         return source_of_file(alloc, file);
     };
     let behind = file.split_at(HEADS_LEN + text_len + binary_len).1;
+    if has_coded(past(file.split_at(HEAD_LEN + text_len).0, HEAD_LEN)) {
+        return source_of_file(alloc, file);
+    }
     let Some(tail) = text_left(alloc, file.len(), behind)? else {
         return source_of_file(alloc, file);
     };
