@@ -7,7 +7,7 @@ usage: disassemble.py FONT > SOURCE
 import functools
 import re
 import sys
-from dataclasses import dataclass
+from dataclasses import dataclass, field
 
 from charstrings import CHARSTRING_KEY, COMMANDS, EEXEC_KEY
 from source import DECIMAL, is_name, lines, token_places, tokens
@@ -36,12 +36,23 @@ class Parts:
     clear: bytes = b""
     coded: bytes = b""
     tail: bytes = b""
+    # where the bytes of the clear text and of the encrypted part stand in the file
+    clear_stands: list[range] = field(default_factory=list)
+    coded_stands: list[range] = field(default_factory=list)
+
+    def place(self, at):
+        """Where the byte stands in the file that has so many before it in the clear text and the encrypted part."""
+        for stands in self.clear_stands + self.coded_stands:
+            if at < len(stands):
+                return b"byte %d" % stands[at]
+            at -= len(stands)
+        raise IndexError(at)
 
 
 # The file
 
 def segments(file):
-    """The segments, each with its type, up to the end that is said or that of the file."""
+    """The segments, each with its type and where its bytes stand, up to the end that is said or that of the file."""
     at = 0
     while at < len(file):
         fault = FontFault(b"D2", b"byte %d" % at)
@@ -54,22 +65,24 @@ def segments(file):
         end = start + int.from_bytes(file[at + 2 : start], "little")
         if kind not in (1, 2) or start > len(file) or end > len(file):
             raise fault
-        yield kind, file[start:end]
+        yield kind, file[start:end], range(start, end)
         at = end
 
 
 def parts(file):
     """The clear text, the encrypted bytes and the text after them of a file with segments; of any other all is clear text."""
     if file[:1] != b"\x80":
-        return Parts(file)
+        return Parts(file, clear_stands=[range(len(file))])
     found = Parts()
-    for kind, part in segments(file):
+    for kind, part, stands in segments(file):
         if kind == 2:
             found.coded += part
+            found.coded_stands.append(stands)
         elif found.coded:
             found.tail += part
         else:
             found.clear += part
+            found.clear_stands.append(stands)
     return found
 
 
@@ -93,10 +106,10 @@ def eexec_end(text):
     return None if found < 0 else found + len(words)
 
 
-def judge_kind(clear):
+def judge_kind(found, clear):
     for words, code in (b"/WeightVector", b"D12"), (b"/CIDFontName", b"D13"):
         if words in clear:
-            raise FontFault(code, b"byte %d" % clear.index(words))
+            raise FontFault(code, found.place(clear.index(words)))
 
 
 def is_hexadecimal(coded):
@@ -340,7 +353,7 @@ def encrypted_part(file):
     found = parts(file)
     end = eexec_end(found.clear)
     clear = found.clear if end is None else found.clear[:end]
-    judge_kind(clear)
+    judge_kind(found, clear)
     if end is None:
         raise FontFault(b"D1")
     return found, clear, (found.clear[end:] + found.coded).lstrip(b" \t\r\n")
@@ -356,8 +369,7 @@ def disassembled(file):
     except FontFault as fault:
         end = digits_end(coded)
         if fault.told[:2] in (b"D4", b"D5") and is_hexadecimal(coded) and end < len(coded):
-            place = len(found.clear) + len(found.coded) - len(coded) + end
-            raise FontFault(b"D3", b"byte %d" % place) from None
+            raise FontFault(b"D3", found.place(len(found.clear) + len(found.coded) - len(coded) + end)) from None
         raise
     judge_sections(private)
     used = 4 + len(plain) - len(rest)

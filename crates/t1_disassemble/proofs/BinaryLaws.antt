@@ -1,8 +1,8 @@
 -- Encrypted parts in binary, in segments of their own.
-use Rattle.std.proofs.Common.{◌≡◌, ℕ, Bool, true, false, ◌&&◌, ◌+◌, ◌-◌, ◌<◌, if◌then◌else◌, List, [], ◌∷◌, ◌++◌, length, drop, Result, Ok, Err, refl, sym, ap, ◌∙◌, append-nil, inl, inr, arith}
+use Rattle.std.proofs.Common.{◌≡◌, ℕ, Bool, true, false, ◌&&◌, ◌+◌, ◌-◌, ◌<◌, ◌≤◌, if◌then◌else◌, List, [], ◌∷◌, ◌++◌, length, take, drop, Result, Ok, Err, refl, sym, ap, ◌∙◌, append-nil, length-append, inl, inr, arith}
 use Rattle.std.proofs.Math.Numerals.{one-add}
 use Rattle.std.proofs.lemmas.Bool.{cases_Bool}
-use Rattle.std.proofs.lemmas.List.{drop-drop}
+use Rattle.std.proofs.lemmas.List.{drop-drop, take-take, length-take-le, length-drop, nil_from_length}
 use Rattle.std.specs.List.{prefix_len}
 use Rattle.std.specs.Prelude.{nat_lt}
 use Rattle.t1_frac.specs.Outcome.{◌>>=◌}
@@ -14,7 +14,7 @@ use Rattle.t1_disassemble.specs.declared.fault.FontPlace.TheVariants.{Nowhere, B
 use Rattle.t1_disassemble.specs.CutDigits.{is_early, is_cut, with_digits}
 use Rattle.t1_disassemble.specs.Decipher.{decrypted_private}
 use Rattle.t1_disassemble.specs.Digits.{is_hexadecimal, digits_len}
-use Rattle.t1_disassemble.specs.Disassembly.{coded_place, after_coded, tail_after}
+use Rattle.t1_disassemble.specs.Disassembly.{coded_bytes, coded_place, after_coded, tail_after}
 use Rattle.t1_disassemble.specs.Front.{is_space, past_spaces}
 use Rattle.t1_disassemble.specs.Kinds.{single_sections}
 use Rattle.t1_disassemble.specs.Outcome.{font_fault_at, font_reported_at}
@@ -142,3 +142,39 @@ flat_same clear tail coded off =
     ∙ same_after (read lead) (λ private. with_tail [] (left private) private) (λ private. with_tail [] (behind private) private)
     (λ private. ap (λ (t : List ℕ). with_tail [] t private) (behind_binary coded (4 + (length plain - length private.1)) off)))
     ∙ counted_then plain (λ count. drop (4 + count) coded)
+
+-- ---- a beginning in segments of text, put in front of the binary segments
+
+parts_same : (text : List ℕ) (p q : FontParts) (coded : List ℕ) → coded_place p coded ≡ coded_place q coded → ((count : ℕ) → tail_after p coded count ≡ tail_after q coded count)
+    → source_onto text p coded ≡ source_onto text q coded
+parts_same text p q coded place tail =
+    let plain = decrypted_private (coded_bytes coded) in
+    let read = λ (n : ℕ) (lead : ℕ). with_digits n coded (private_onto (reading_operator (lines plain)) lead text false plain) in
+    let left = λ (parts : FontParts) (private : List ℕ × List ℕ). tail_after parts coded (4 + (length plain - length private.1)) in
+    same_after (font_reported_at Nowhere (leading_bytes (lines plain)))
+    (λ lead. read (coded_place p coded) lead >>= λ private. with_tail text (left p private) private)
+    (λ lead. read (coded_place q coded) lead >>= λ private. with_tail text (left q private) private)
+    (λ lead.
+    ap (λ (n : ℕ). read n lead >>= λ private. with_tail text (left p private) private) place
+    ∙ same_after (read (coded_place q coded) lead) (λ private. with_tail text (left p private) private) (λ private. with_tail text (left q private) private)
+    (λ private. ap (λ (t : List ℕ). with_tail text t private) (tail (4 + (length plain - length private.1)))))
+
+pub whole_parts : (clear front segments tail whole : List ℕ) (len : ℕ) → len ≤ length clear → 0 < length segments → front ≡ take len clear → whole ≡ drop len clear ++ segments
+    → source_onto (joined (lines (take len clear))) (record { clear = clear; coded = segments; tail = tail }) (past_spaces (drop len clear ++ segments))
+    ≡ source_onto (joined (lines (take len front))) (record { clear = front; coded = whole; tail = tail }) (past_spaces (drop len front ++ whole))
+whole_parts clear front segments tail whole len within some e d =
+    let p : FontParts = record { clear = clear; coded = segments; tail = tail } in
+    let q : FontParts = record { clear = front; coded = whole; tail = tail } in
+    let coded = past_spaces (drop len clear ++ segments) in
+    let front_len : length front ≡ len = ap (λ (l : List ℕ). length l) e ∙ length-take-le len clear within in
+    let whole_len : length whole ≡ length clear - len + length segments =
+    ap (λ (l : List ℕ). length l) d ∙ omega (arith, length-append (drop len clear) segments, length-drop len clear)
+    in
+    let place : coded_place p coded ≡ coded_place q coded = omega (arith, front_len, whole_len, within) in
+    let much : 0 < length whole = omega (arith, whole_len, some) in
+    let none : drop len front ≡ [] = nil_from_length (drop len front) (omega (arith, length-drop len front, front_len)) in
+    let same : take len front ≡ take len clear = ap (λ (l : List ℕ). take len l) e ∙ take-take len len clear (omega arith) in
+    let all : drop len clear ++ segments ≡ drop len front ++ whole = sym d ∙ ap (λ (l : List ℕ). l ++ whole) (sym none) in
+    parts_same (joined (lines (take len clear))) p q coded place (λ count. tail_again clear segments tail coded count some ∙ sym (tail_again front whole tail coded count much))
+    ∙ ap (λ (l : List ℕ). source_onto (joined (lines l)) q coded) (sym same)
+    ∙ ap (λ (l : List ℕ). source_onto (joined (lines (take len front))) q (past_spaces l)) all

@@ -15,6 +15,7 @@ use Rattle.t1_disassemble.specs.declared.fault.FontFault.{FontFault}
 use Rattle.t1_disassemble.specs.Decipher.{deciphered, decrypted_private}
 use Rattle.t1_disassemble.specs.Digits.{is_hexadecimal}
 use Rattle.t1_disassemble.specs.Disassembly.{coded_bytes, after_coded, tail_after, source_of, disassembled}
+use Rattle.t1_disassemble.specs.FilePlaces.{in_file}
 use Rattle.t1_disassemble.specs.Front.{after_eexec, past_spaces}
 use Rattle.t1_disassemble.specs.Laws.{plain_item, items_text, source_lines, raw_file, IsReadBack}
 use Rattle.t1_disassemble.specs.PiecesOnto.{private_onto}
@@ -64,15 +65,15 @@ flat_again clear operator lead items last bytes trailer coded more is made no_ma
     let count = 4 + (length (private ++ more) - length more) in
     let size : count ≡ length (eexec private) = omega (arith, length-append private more, length-eexec private) in
     let tail : tail_after parts coded count ≡ trailer = ap (after_coded coded) size ∙ behind in
-    ap (λ (r : Result FontParts FontFault). r >>= λ p. source_of p (after_eexec p.clear)) (flat_parts file (unmarked (joined clear) coded some no_mark))
-    ∙ ap (source_of parts) (clear_again clear coded is.front)
+    ap (λ (r : Result FontParts FontFault). r >>= λ p. in_file file (source_of p (after_eexec p.clear))) (flat_parts file (unmarked (joined clear) coded some no_mark))
+    ∙ ap (in_file file) (ap (source_of parts) (clear_again clear coded is.front)
     ∙ kind_again parts coded (joined clear) (before_again (joined clear) coded) is.kind
     ∙ ap (λ t. source_onto t parts (past_spaces (coded ++ []))) text
     ∙ ap (source_onto (joined clear) parts) here
     ∙ ap (plain_onto (joined clear) parts coded) plain
     ∙ plain_again (joined clear) parts coded (private ++ more) operator all more lead (ap (λ l. leading_bytes (lines l)) grouped ∙ says.1 ∙ is.said.leads) (ap (λ l. reading_operator (lines l)) grouped ∙ says.0 ∙ is.said.reads)
     (ap (private_onto operator lead (joined clear) false) ended ∙ private_again operator lead items bytes (joined clear) last more is.said.name is.said.small is.each made is.end.line is.end.none is.end.closes) (single_after (joined clear) (joined (source_lines items last)) is.single)
-    ∙ ap (λ t. Ok (all ++ joined (tail_of (lines t)))) tail
+    ∙ ap (λ t. Ok (all ++ joined (tail_of (lines t)))) tail)
 
 -- ---- the encrypted part in binary
 

@@ -7,10 +7,12 @@ use Rattle.t1_frac.specs.Outcome.{◌>>=◌}
 use Rattle.t1_text.specs.Lines.{begins_with}
 use Rattle.t1_disassemble.specs.declared.fault.FontCode.{FontCode}
 use Rattle.t1_disassemble.specs.declared.fault.FontFault.{FontFault}
+use Rattle.t1_disassemble.specs.declared.fault.FontPlace.{FontPlace}
 use Rattle.t1_disassemble.specs.declared.fault.FontPlace.TheVariants.{Byte}
-use Rattle.t1_disassemble.specs.InPlace.{tailless, IsFront}
+use Rattle.t1_disassemble.specs.InPlace.{tailless, AreBehind, IsFront}
 use Rattle.t1_disassemble.specs.Outcome.{font_reported_at}
 use Rattle.t1_disassemble.specs.SegmentsRead.{Segment, FontParts, cut_segment, segment_after, some_found, typed_segment, segment_at, placed_segment, segments_of, parts_onto, with_segment, no_parts}
+use Rattle.t1_disassemble.proofs.FilePlaceLaws.{front_stands, tail_passed, stands_end}
 use Rattle.t1_disassemble.proofs.Segmented.{parts_more, parts_after}
 
 -- ---- where the bytes of a segment stand
@@ -156,9 +158,25 @@ front_found file s t after rest e d text binary some =
           ∙ ap (λ (l : List ℕ). parts_onto (tailless l t.bytes) (segments_of total rest)) first.here
           ∙ ap (λ (l : List ℕ). parts_onto (tailless (take (length s.bytes) (drop 6 file)) l) (segments_of total rest)) here
           ∙ ap (λ (l : List ℕ). parts_onto (tailless (take (length s.bytes) (drop 6 file)) (take (length t.bytes) (drop (12 + length s.bytes) file))) (segments_of total l)) behind;
+      places = λ total count are.
+          front_stands total file s t after rest count e d text binary some (subst (λ (l : List ℕ). AreBehind (segments_of total l)) (sym behind) are);
     }
 
 -- ---- the segments behind them
+
+-- a segment that is found without a fault
+same_found : {X : Type 0} (y x : X) → ◌≡◌ {A = Result X FontFault} (Ok y) (Ok x) → y ≡ x
+same_found y x e = cc
+
+found_at : {X : Type 0} (place : FontPlace) (found : Result X FontCode) (x : X) → font_reported_at place found ≡ Ok x → found ≡ Ok x
+found_at {X = X} place (Ok y) x e = ap (λ (z : X). Ok z) (same_found y x e)
+found_at place (Err code) x e = absurd (cc)
+
+placed_ok : (total : ℕ) (rest : List ℕ) (found : Segment × List ℕ) → placed_segment total rest ≡ Ok (Some found) → segment_at rest ≡ Ok (Some found)
+placed_ok total rest found e = found_at (Byte (total - length rest)) (segment_at rest) (Some found) e
+
+placed_none : (total : ℕ) (rest : List ℕ) → placed_segment total rest ≡ Ok None → segment_at rest ≡ Ok None
+placed_none total rest e = found_at (Byte (total - length rest)) (segment_at rest) None e
 
 abbrev pub tailed : List ℕ → List ℕ → List ℕ → FontParts
 tailed clear coded tail = record { clear = clear; coded = coded; tail = tail }
@@ -176,6 +194,15 @@ tail_more clear coded tail total rest s after some e kind =
     parts_more (tailed clear coded tail) total rest
     ∙ ap (λ (found : Result (Option (Segment × List ℕ)) FontFault). found >>= parts_after (tailed clear coded tail) total) e
     ∙ ap (λ (parts : FontParts). parts_onto parts (segments_of total after)) (tail_put clear coded tail s some kind)
+
+-- a segment that isn't binary, behind the encrypted part
+pub behind_more : (total : ℕ) (rest : List ℕ) (s : Segment) (after : List ℕ) → placed_segment total rest ≡ Ok (Some (s, after)) → (s.kind == 2) ≡ false → AreBehind (segments_of total after)
+    → AreBehind (segments_of total rest)
+behind_more total rest s after e kind are start end count =
+    tail_passed total start end true rest s after count end (placed_ok total rest (s, after) e) (rw kind refl) (are (start + 6 + length s.bytes) end count)
+
+pub behind_ends : (total : ℕ) (rest : List ℕ) → placed_segment total rest ≡ Ok None → AreBehind (segments_of total rest)
+behind_ends total rest e start end count = stands_end total start end true rest count (placed_none total rest e)
 
 pub tail_ends : (parts : FontParts) (total : ℕ) (rest : List ℕ) → placed_segment total rest ≡ Ok None → parts_onto parts (segments_of total rest) ≡ Ok parts
 tail_ends parts total rest e = parts_more parts total rest ∙ ap (λ (found : Result (Option (Segment × List ℕ)) FontFault). found >>= parts_after parts total) e

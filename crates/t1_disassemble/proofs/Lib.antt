@@ -1,10 +1,13 @@
 pub mod AlikeLaws
 pub mod BinaryLaws
+pub mod ClearLaws
 pub mod CutPieces
+pub mod CutPlaces
 pub mod Deciphering
 pub mod DigitFileLaws
 pub mod DigitLaws
 pub mod DigitValues
+pub mod FilePlaceLaws
 pub mod FlatFileLaws
 pub mod FrontLaws
 pub mod Fronts

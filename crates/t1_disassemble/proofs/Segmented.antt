@@ -8,7 +8,7 @@ use Rattle.t1_disassemble.specs.declared.fault.FontFault.{FontFault}
 use Rattle.t1_disassemble.specs.declared.fault.FontPlace.{FontPlace}
 use Rattle.t1_disassemble.specs.declared.fault.FontPlace.TheVariants.{Byte}
 use Rattle.t1_disassemble.specs.Cuts.{pieces_after}
-use Rattle.t1_disassemble.specs.Outcome.{font_reported_at}
+use Rattle.t1_disassemble.specs.Outcome.{font_fault_at, font_reported_at}
 use Rattle.t1_disassemble.specs.SegmentsRead.{Segment, FontParts, cut_segment, segment_after, some_found, typed_segment, segment_at, segment_left, placed_segment, before_others, segments_at, segments_of, parts_onto, with_segment}
 use Rattle.t1_disassemble.proofs.CutPieces.{IsLeft, left_twice, left_pieces}
 
@@ -84,6 +84,18 @@ one_more : (total : ℕ) (rest : List ℕ) → segments_of total rest ≡ (place
 unfolding segments_of
 one_more total [] = refl
 one_more total (first ∷ rest) = found_more total (Byte (total - length (first ∷ rest))) rest (segment_at (first ∷ rest)) (at_leaves first rest)
+
+pub segments_more : (total : ℕ) (rest : List ℕ) (s : Segment) (after : List ℕ) → segment_at rest ≡ Ok (Some (s, after)) → segments_of total rest ≡ (segments_of total after >>= λ more. Ok (s ∷ more))
+segments_more total rest s after e =
+    one_more total rest ∙ ap (λ (found : Result (Option (Segment × List ℕ)) FontCode). font_reported_at (Byte (total - length rest)) found >>= before_rest total) e
+
+pub segments_end : (total : ℕ) (rest : List ℕ) → segment_at rest ≡ Ok None → segments_of total rest ≡ Ok []
+segments_end total rest e =
+    one_more total rest ∙ ap (λ (found : Result (Option (Segment × List ℕ)) FontCode). font_reported_at (Byte (total - length rest)) found >>= before_rest total) e
+
+pub segments_fail : (total : ℕ) (rest : List ℕ) (code : FontCode) → segment_at rest ≡ Err code → segments_of total rest ≡ Err (font_fault_at (Byte (total - length rest)) code)
+segments_fail total rest code e =
+    one_more total rest ∙ ap (λ (found : Result (Option (Segment × List ℕ)) FontCode). font_reported_at (Byte (total - length rest)) found >>= before_rest total) e
 
 -- ---- each segment is put into its part
 

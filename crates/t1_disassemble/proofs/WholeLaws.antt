@@ -23,6 +23,7 @@ use Rattle.t1_disassemble.specs.declared.fault.FontFault.{FontFault}
 use Rattle.t1_disassemble.specs.Decipher.{decrypted_private}
 use Rattle.t1_disassemble.specs.Digits.{digit_value, is_hexadecimal}
 use Rattle.t1_disassemble.specs.Disassembly.{coded_bytes, tail_after, coded_source, source_of, disassembled}
+use Rattle.t1_disassemble.specs.FilePlaces.{in_file}
 use Rattle.t1_disassemble.specs.Front.{past_line, after_eexec_line, after_eexec_words, first_of, after_eexec, past_spaces}
 use Rattle.t1_disassemble.specs.Kinds.{plain_kind, single_sections}
 use Rattle.t1_disassemble.specs.Laws.{plain_item, items_text, reads_line, reads_item, front_lines, source_lines, EndsWithEexec, IsReadBack}
@@ -224,5 +225,6 @@ file_again size clear operator lead items last bytes trailer some short is made 
     let private = private_of bytes last in
     let parts : FontParts = record { clear = joined clear; coded = eexec private; tail = trailer } in
     let found : after_eexec (joined clear) ≡ Some [] = ap after_eexec (sym (append-nil (joined clear))) ∙ clear_again clear [] is.front in
-    ap (λ (r : Result FontParts FontFault). r >>= λ p. source_of p (after_eexec p.clear)) (pfb_again size (joined clear) private trailer some short)
-    ∙ ap (source_of parts) found ∙ source_again clear operator lead items last bytes trailer is made
+    let file = pfb size (joined clear) private trailer in
+    ap (λ (r : Result FontParts FontFault). r >>= λ p. in_file file (source_of p (after_eexec p.clear))) (pfb_again size (joined clear) private trailer some short)
+    ∙ ap (in_file file) (ap (source_of parts) found ∙ source_again clear operator lead items last bytes trailer is made)

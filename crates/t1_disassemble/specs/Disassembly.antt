@@ -9,6 +9,7 @@ use Rattle.t1_disassemble.specs.declared.fault.FontPlace.TheVariants.{Nowhere}
 use Rattle.t1_disassemble.specs.CutDigits.{with_digits}
 use Rattle.t1_disassemble.specs.Decipher.{decrypted_private}
 use Rattle.t1_disassemble.specs.Digits.{digit_bytes, after_digits, is_hexadecimal}
+use Rattle.t1_disassemble.specs.FilePlaces.{in_file}
 use Rattle.t1_disassemble.specs.Front.{after_eexec, past_line, past_spaces}
 use Rattle.t1_disassemble.specs.Kinds.{plain_kind, single_sections}
 use Rattle.t1_disassemble.specs.Outcome.{font_fault_at, font_reported_at}
@@ -28,7 +29,7 @@ after_coded coded count = if is_hexadecimal coded then past_line (after_digits (
 abbrev pub tail_after : FontParts → List ℕ → ℕ → List ℕ
 tail_after parts coded count = if length parts.coded == 0 then after_coded coded count else parts.tail
 
--- profile: how many bytes of the file stand before the encrypted ones, without the heads of its segments
+-- profile: how many bytes of the clear text and of the encrypted part's segments stand before the encrypted ones
 abbrev pub coded_place : FontParts → List ℕ → ℕ
 coded_place parts coded = length parts.clear + length parts.coded - length coded
 
@@ -53,4 +54,4 @@ source_of parts (Some after) =
 
 -- Type 1 Font Format, Chapter 2: the source of a font's file, or its first fault
 unfoldable pub disassembled : List ℕ → Result (List ℕ) FontFault
-disassembled file = font_parts file >>= λ parts. source_of parts (after_eexec parts.clear)
+disassembled file = font_parts file >>= λ parts. in_file file (source_of parts (after_eexec parts.clear))

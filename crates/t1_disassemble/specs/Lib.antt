@@ -1,3 +1,4 @@
+pub mod ClearPart
 pub mod CommandWords
 pub mod CutDigits
 pub mod CutWords
@@ -5,6 +6,8 @@ pub mod Cuts
 pub mod Decipher
 pub mod Digits
 pub mod Disassembly
+pub mod FilePlaced
+pub mod FilePlaces
 pub mod Front
 pub mod InPlace
 pub mod Kinds

@@ -22,20 +22,16 @@ use crate::fault::{FontCode, FontFault, FontPlace, FontRefusal};
 use crate::front::{after_eexec, is_space, past, past_line, past_spaces};
 use crate::kinds::{check_kind, check_sections};
 use crate::lines::Lines;
+use crate::places::{byte_place, fault_byte, fault_moved, front_place};
 use crate::private::{Settings, push_private};
 use crate::segments::{
-    JoinedParts, LentParts, front_lens, has_segments, segmented_parts, text_left,
+    HEAD_LEN, HEADS_LEN, JoinedParts, LentParts, front_lens, has_segments, segmented_parts,
+    text_left,
 };
 use crate::settings::{leading_bytes, reading_operator};
 use std::alloc::{AllocError, Global};
 use t1_parts::{push_line, push_lines, tail_of};
 use t1_text::first_line;
-
-/// How many bytes stand before those of a segment.
-pub(crate) const HEAD_LEN: usize = 6;
-
-/// How many bytes of heads stand before those of a file's second segment.
-pub(crate) const HEADS_LEN: usize = 12;
 
 /// How many bytes stand in front of the private text.
 pub(crate) const EEXEC_LEAD: usize = 4;
@@ -168,7 +164,8 @@ pub(crate) fn push_checked<'a, T: Lines>(
     }
 }
 
-/// How many bytes of a file stand before the encrypted ones, without the heads of its segments.
+/// How many bytes of the clear text and of the encrypted part's segments stand before the encrypted
+/// ones.
 pub(crate) fn coded_place(parts: &LentParts, coded: &[u8]) -> usize
     ensures value { result ≡ coded_place (lent_parts parts.now) coded.now }
     ensures within { result + length coded.now < 2 ^ 64 }
@@ -405,7 +402,10 @@ fn source_of_segments(alloc: Global, file: &[u8]) -> Result<Vec<u8>, FontRefusal
 {
     let JoinedParts { clear, coded, tail } = segmented_parts(alloc, file)?;
     let mut coded = coded;
-    source_of_parts(alloc, &clear, &mut coded, &tail)
+    match source_of_parts(alloc, &clear, &mut coded, &tail) {
+        Ok(text) => Ok(text),
+        Err(refusal) => Err(fault_moved(byte_place(file, fault_byte(&refusal)), refusal)),
+    }
 }
 
 /// The source of a font's file, in the form that `assemble` reads: of a PFB file, whatever its
@@ -437,5 +437,11 @@ pub fn disassemble_in_place(alloc: Global, file: &mut [u8]) -> Result<Vec<u8>, F
     };
     let (front, back) = file.split_at_mut(HEADS_LEN + text_len);
     let clear = past(front.split_at(HEAD_LEN + text_len).0, HEAD_LEN);
-    source_of_parts(alloc, clear, back.split_at_mut(binary_len).0, &tail)
+    match source_of_parts(alloc, clear, back.split_at_mut(binary_len).0, &tail) {
+        Ok(text) => Ok(text),
+        Err(refusal) => {
+            let place = front_place(text_len, binary_len, fault_byte(&refusal));
+            Err(fault_moved(place, refusal))
+        }
+    }
 }

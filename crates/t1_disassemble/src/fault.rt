@@ -37,7 +37,7 @@ pub enum FontCode {
 #[derive(Debug, Drop)]
 pub enum FontPlace {
     Nowhere,
-    /// This many bytes after the file's first; of D3, D12 and D13 without the heads of segments.
+    /// This many bytes after the file's first.
     Byte(u64),
     /// At the entry whose line begins so, as `dup 5` or `/A`.
     Entry(Bytes),

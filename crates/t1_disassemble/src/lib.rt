@@ -15,6 +15,7 @@ mod lines;
 mod opening;
 mod packed;
 mod packing;
+mod places;
 mod private;
 mod segments;
 mod settings;

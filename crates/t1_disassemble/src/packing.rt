@@ -1,33 +1,38 @@
 //! The source of a font's file, kept with its charstrings as bytes until it is written.
-ghost use Rattle.std.specs.Prelude.{◌≡◌, ◌+◌, ◌-◌, ◌<◌, ◌≤◌, ◌^◌, [], ◌++◌, true, length, drop};
-ghost use Rattle.std.specs.Prelude.{OnOk, IfOk};
+ghost use Rattle.std.specs.Prelude.{◌≡◌, ◌+◌, ◌-◌, ◌<◌, ◌≤◌, ◌^◌, [], ◌++◌, true, length};
+ghost use Rattle.std.specs.Prelude.{OnOk, IfOk, IfErr, Ok, Err, Some, take, drop};
 ghost use Rattle.t1_text.specs.Lines.{begins_with, lines, joined};
 ghost use Rattle.t1_code.specs.Writing.{Puts, Writes, outlet};
 ghost use Rattle.t1_code.specs.Pfb.{marker};
 ghost use Rattle.t1_parts.specs.Parts.{tail_of};
+ghost use Rattle.t1_disassemble.specs.ClearPart.{clear_len, has_coded};
 ghost use Rattle.t1_disassemble.specs.Decipher.{decrypted_private};
+ghost use Rattle.t1_disassemble.specs.Digits.{digits_len};
 ghost use Rattle.t1_disassemble.specs.Disassembly.{source_of, disassembled};
 ghost use Rattle.t1_disassemble.specs.Front.{after_eexec, past_spaces};
+ghost use Rattle.t1_disassemble.specs.Kinds.{plain_kind};
 ghost use Rattle.t1_disassemble.specs.Lent.{lent_parts};
 ghost use Rattle.t1_disassemble.specs.Outcome.{GivesFont};
 ghost use Rattle.t1_disassemble.specs.SourceOnto.{plain_onto, source_onto, counted_private};
 ghost use Rattle.t1_disassemble.specs.SourceOnto.{segmented_source, flat_source};
 
 use crate::cipher::{decipher_private, encipher_private};
-use crate::digits::is_hexadecimal;
+use crate::digits::{digits_len, is_hexadecimal};
 use crate::disassembly::{
-    EEXEC_LEAD, HEAD_LEN, HEADS_LEN, coded_place, joined_bytes, past_lead, plain_bytes,
-    push_checked, push_lines_of, tail_after,
+    EEXEC_LEAD, coded_place, joined_bytes, past_lead, plain_bytes, push_checked, push_lines_of,
+    tail_after,
 };
-use crate::fault::{FontCode, FontRefusal};
+use crate::fault::{FontCode, FontFault, FontPlace, FontRefusal};
 use crate::front::{after_eexec, past, past_spaces, space_len};
 use crate::kinds::check_kind;
 use crate::known_word::{KnownWord, known_words};
 use crate::lines::add_lines;
 use crate::packed::Packed;
+use crate::places::{byte_place, fault_byte, fault_moved, front_place};
 use crate::private::{Settings, push_private};
 use crate::segments::{
-    JoinedParts, LentParts, front_lens, has_segments, segmented_parts, text_left,
+    HEAD_LEN, HEADS_LEN, JoinedParts, LentParts, front_lens, has_segments, segmented_parts,
+    text_left,
 };
 use crate::settings::{leading_bytes, reading_operator};
 use std::alloc::{AllocError, Global};
@@ -288,9 +293,69 @@ fn packed_coded(
     packed_joined(alloc, clear, after, coded, tail)
 }
 
+/// Whether bytes of the encrypted part stand behind the eexec line of a clear text.
+fn has_coded(clear: &[u8]) -> bool
+    ensures { result ≡ has_coded (after_eexec clear.now) }
+{
+    match after_eexec(clear) {
+        Some(after) => !past_spaces(after).is_empty(),
+        None => false,
+    }
+}
+
+/// How many bytes of a clear text stand before those after its eexec line, or its fault.
+fn clear_len(clear: &[u8]) -> Result<usize, FontFault>
+    ensures within { IfOk result (λ len. len ≤ length clear.now) }
+    ensures found { IfOk result (λ len. after_eexec clear.now ≡ Some (drop len clear.now)) }
+    ensures kind { IfOk result (λ len. plain_kind (take len clear.now)
+        ≡ Ok (take len clear.now)) }
+    ensures fault { IfErr result (λ fault. clear_len clear.now ≡ Err fault) }
+{
+    let Some(after) = after_eexec(clear) else {
+        check_kind(clear)?;
+        return Err(FontFault {
+            code: FontCode::D1,
+            place: FontPlace::Nowhere,
+        });
+    };
+    let len = clear.len() - after.len();
+    check_kind(clear.split_at(len).0)?;
+    Ok(len)
+}
+
+/// The source of the parts of a file, of which the clear text is known to have so many bytes before
+/// those after its eexec line. Of the clear text and the encrypted part nothing is known
+/// afterwards.
+fn source_behind(
+    alloc: Global,
+    clear: &mut [u8],
+    len: usize,
+    coded: &mut [u8],
+    tail: &[u8],
+) -> Result<FontSource, FontRefusal>
+    requires { len ≤ length clear.now }
+    ensures { GivesFont
+        (λ text. text)
+        result
+        (source_onto
+        (joined (lines (take len clear.old)))
+        (record { clear = clear.old; coded = coded.old; tail = tail.now })
+        (past_spaces (drop len clear.old ++ coded.old))) }
+{
+    let mut front = Vec::new(alloc);
+    push_lines_of(&mut front, clear.split_at(len).0)?;
+    let lines = packed_coded(alloc, clear, len, coded, tail)?;
+    let known = known_words(alloc)?;
+    Ok(FontSource {
+        front,
+        lines,
+        known,
+    })
+}
+
 /// The source of the parts of a file. Of the clear text and the encrypted part nothing is known
 /// afterwards.
-#[tactic(auto, using(crate::proofs::Sources::source_same))]
+#[tactic(auto, using(crate::proofs::ClearLaws::clear_fails, crate::proofs::ClearLaws::behind_clear))]
 fn source_of_parts(
     alloc: Global,
     clear: &mut [u8],
@@ -303,22 +368,68 @@ fn source_of_parts(
         (source_of (record { clear = clear.old; coded = coded.old; tail = tail.now })
         (after_eexec clear.old)) }
 {
-    let Some(after) = after_eexec(clear) else {
-        check_kind(clear)?;
-        return Err(FontRefusal::from(FontCode::D1));
-    };
-    let len = clear.len() - after.len();
-    let clear_lines = clear.split_at(len).0;
-    check_kind(clear_lines)?;
-    let mut front = Vec::new(alloc);
-    push_lines_of(&mut front, clear_lines)?;
-    let lines = packed_coded(alloc, clear, len, coded, tail)?;
-    let known = known_words(alloc)?;
-    Ok(FontSource {
-        front,
-        lines,
-        known,
-    })
+    let len = clear_len(clear)?;
+    source_behind(alloc, clear, len, coded, tail)
+}
+
+/// How many bytes of the clear text and the encrypted part stand before the first that is neither a
+/// digit nor a blank, where the encrypted part begins after so many of them.
+#[tactic(auto, using(crate::proofs::CutPlaces::digits_before, crate::proofs::CutPlaces::digits_past))]
+fn digits_end(clear: &[u8], len: usize, coded: &[u8]) -> usize
+    requires { len ≤ length clear.now }
+    ensures { result ≡ len + digits_len (drop len clear.now ++ coded.now) }
+{
+    let after = past(clear, len);
+    let digits = digits_len(after);
+    if digits < after.len() {
+        return len + digits;
+    }
+    clear.len() + digits_len(coded)
+}
+
+/// The encrypted part of a file with segments in one piece, of which a beginning may stand after so
+/// many bytes of the clear text. The memory of the segments is given back.
+fn whole_coded(
+    alloc: Global,
+    clear: &[u8],
+    len: usize,
+    coded: Vec<u8>,
+) -> Result<Vec<u8>, AllocError>
+    ensures { IfOk result (λ whole. whole.items ≡ drop len clear.now ++ coded.items) }
+{
+    let after = past(clear, len);
+    if after.is_empty() {
+        return Ok(coded);
+    }
+    joined_bytes(alloc, after, &coded)
+}
+
+/// The source of the parts of a file with segments, of which the clear text is known to have so
+/// many bytes before those after its eexec line. The encrypted part is in memory once.
+fn source_of_joined(
+    alloc: Global,
+    clear: Vec<u8>,
+    len: usize,
+    coded: Vec<u8>,
+    tail: &[u8],
+) -> Result<FontSource, FontRefusal>
+    requires { len ≤ length clear.items }
+    ensures { GivesFont
+        (λ text. text)
+        result
+        (source_onto
+        (joined (lines (take len clear.items)))
+        (record { clear = clear.items; coded = coded.items; tail = tail.now })
+        (past_spaces (drop len clear.items ++ coded.items))) }
+{
+    let mut clear = clear;
+    if coded.as_slice().is_empty() {
+        let mut none = coded;
+        return source_behind(alloc, &mut clear, len, &mut none, tail);
+    }
+    let whole = whole_coded(alloc, &clear, len, coded)?;
+    let mut whole = whole;
+    source_behind(alloc, clear.split_at_mut(len).0, len, &mut whole, tail)
 }
 
 /// The source of a file with segments, whose memory is given back when they are joined.
@@ -328,10 +439,20 @@ fn source_of_segments(alloc: Global, file: Vec<u8>) -> Result<FontSource, FontRe
     ensures { GivesFont (λ text. text) result (disassembled file.items) }
 {
     let JoinedParts { clear, coded, tail } = segmented_parts(alloc, &file)?;
+    let len = match clear_len(&clear) {
+        Ok(len) => len,
+        Err(fault) => {
+            let refusal = FontRefusal::Fault(fault);
+            return Err(fault_moved(byte_place(&file, fault_byte(&refusal)), refusal));
+        }
+    };
+    // the only byte at which the encrypted part may have a fault
+    let place = byte_place(&file, digits_end(&clear, len, &coded) as u64);
     drop(file);
-    let mut clear = clear;
-    let mut coded = coded;
-    source_of_parts(alloc, &mut clear, &mut coded, &tail)
+    match source_of_joined(alloc, clear, len, coded, &tail) {
+        Ok(source) => Ok(source),
+        Err(refusal) => Err(fault_moved(place, refusal)),
+    }
 }
 
 /// The source of a font's file, of whatever segments.
@@ -349,7 +470,8 @@ fn source_of_file(alloc: Global, file: Vec<u8>) -> Result<FontSource, FontRefusa
 
 /// The source of a font's file, as `disassemble` gives it, in less memory than its text has: about
 /// that of the file, which is given back. Of the encrypted part it takes no copy where it is binary
-/// and begins with its own segments, or the file has none.
+/// and begins with its own segments, or the file has none; where it begins in a segment of text,
+/// the file is given back before it is copied.
 #[tactic(auto, unfolding(crate::specs::Disassembly::disassembled, crate::specs::SegmentsRead::font_parts))]
 pub fn read_font(alloc: Global, file: Vec<u8>) -> Result<FontSource, FontRefusal>
     ensures { GivesFont (λ text. text) result (disassembled file.items) }
@@ -359,10 +481,19 @@ pub fn read_font(alloc: Global, file: Vec<u8>) -> Result<FontSource, FontRefusal
         return source_of_file(alloc, file);
     };
     let behind = file.split_at(HEADS_LEN + text_len + binary_len).1;
+    if has_coded(past(file.split_at(HEAD_LEN + text_len).0, HEAD_LEN)) {
+        return source_of_file(alloc, file);
+    }
     let Some(tail) = text_left(alloc, file.len(), behind)? else {
         return source_of_file(alloc, file);
     };
     let (front, back) = file.split_at_mut(HEADS_LEN + text_len);
     let clear = front.split_at_mut(HEAD_LEN).1.split_at_mut(text_len).0;
-    source_of_parts(alloc, clear, back.split_at_mut(binary_len).0, &tail)
+    match source_of_parts(alloc, clear, back.split_at_mut(binary_len).0, &tail) {
+        Ok(source) => Ok(source),
+        Err(refusal) => {
+            let place = front_place(text_len, binary_len, fault_byte(&refusal));
+            Err(fault_moved(place, refusal))
+        }
+    }
 }

@@ -3,7 +3,7 @@ ghost use Rattle.std.specs.Prelude.{◌≡◌, ◌+◌, ◌-◌, ◌≤◌, ◌<
 ghost use Rattle.std.specs.Prelude.{MatchResult, OnOk, Ok, Err, ℕ, List, [], ◌++◌};
 ghost use Rattle.t1_text.specs.Lines.{begins_with};
 ghost use Rattle.t1_code.specs.Pfb.{marker};
-ghost use Rattle.t1_disassemble.specs.InPlace.{IsFront, GivesTail, tailless};
+ghost use Rattle.t1_disassemble.specs.InPlace.{AreBehind, IsFront, GivesTail, tailless};
 ghost use Rattle.t1_disassemble.specs.Outcome.{GivesFont, font_fault_at};
 ghost use Rattle.t1_disassemble.specs.declared.fault.FontPlace.TheVariants.{Byte};
 ghost use Rattle.t1_disassemble.specs.SegmentsRead.{segment_after, typed_segment, segment_at};
@@ -15,6 +15,12 @@ use crate::fault::{FontCode, FontFault, FontPlace, FontRefusal};
 use std::alloc::{AllocError, Global};
 use std::marker::Model;
 
+/// How many bytes stand before those of a segment.
+pub(crate) const HEAD_LEN: usize = 6;
+
+/// How many bytes of heads stand before those of a file's second segment.
+pub(crate) const HEADS_LEN: usize = 12;
+
 /// The byte that each segment begins with.
 const MARKER: u8 = 128;
 
@@ -22,17 +28,17 @@ const MARKER: u8 = 128;
 const ASCII: u8 = 1;
 
 /// The type of a segment of binary data.
-const BINARY: u8 = 2;
+pub(crate) const BINARY: u8 = 2;
 
 /// The type that stands at the end of the file.
 const END: u8 = 3;
 
 /// A segment, and the bytes after it.
 #[derive(Clone, Copy, Debug)]
-struct Found<'a> {
-    kind: u8,
-    bytes: &'a [u8],
-    after: &'a [u8],
+pub(crate) struct Found<'a> {
+    pub(crate) kind: u8,
+    pub(crate) bytes: &'a [u8],
+    pub(crate) after: &'a [u8],
 }
 
 /// The segment of a type whose length stands at the front.
@@ -42,6 +48,8 @@ fn segment_after(kind: u8, rest: &[u8]) -> Result<Found<'_>, FontCode>
         (λ found. segment_after kind rest.now ≡ Ok (found_segment found))
         (λ code. segment_after kind rest.now ≡ Err code) }
     ensures shorter { IfOk result (λ found. length found.after.now < length rest.now) }
+    ensures sizes { IfOk result (λ found. 4 + length found.bytes.now + length found.after.now
+        ≡ length rest.now) }
 {
     let [a, b, c, d, data @ ..] = rest else {
         return Err(FontCode::D2);
@@ -62,6 +70,8 @@ fn typed_segment(kind: u8, rest: &[u8]) -> Result<Option<Found<'_>>, FontCode>
         (λ code. typed_segment kind rest.now ≡ Err code) }
     ensures shorter { IfOk result (λ found. IfSome found
         (λ it. length it.after.now < length rest.now)) }
+    ensures sizes { IfOk result (λ found. IfSome found
+        (λ it. 4 + length it.bytes.now + length it.after.now ≡ length rest.now)) }
 {
     if kind == END {
         return Ok(None);
@@ -76,13 +86,15 @@ fn typed_segment(kind: u8, rest: &[u8]) -> Result<Option<Found<'_>>, FontCode>
 }
 
 /// The segment at the front, and the bytes after it; nothing at the end of the file.
-fn next_segment(bytes: &[u8]) -> Result<Option<Found<'_>>, FontCode>
+pub(crate) fn next_segment(bytes: &[u8]) -> Result<Option<Found<'_>>, FontCode>
     ensures value { MatchResult
         result
         (λ found. segment_at bytes.now ≡ Ok (found_maybe found))
         (λ code. segment_at bytes.now ≡ Err code) }
     ensures shorter { IfOk result (λ found. IfSome found
         (λ it. length it.after.now < length bytes.now)) }
+    ensures sizes { IfOk result (λ found. IfSome found
+        (λ it. 6 + length it.bytes.now + length it.after.now ≡ length bytes.now)) }
 {
     if bytes.is_empty() {
         return Ok(None);
@@ -217,17 +229,19 @@ pub(crate) fn front_lens(file: &[u8]) -> Option<(usize, usize)>
 }
 
 /// The text of the segments that are left of a file of so many bytes, where none of them is binary.
-#[tactic(auto, using(crate::proofs::InPlaceLaws::tail_ends, crate::proofs::InPlaceLaws::tail_fails))]
+#[tactic(auto, using(crate::proofs::InPlaceLaws::tail_ends, crate::proofs::InPlaceLaws::tail_fails, crate::proofs::InPlaceLaws::behind_ends))]
 pub(crate) fn text_left(
     alloc: Global,
     total: usize,
     bytes: &[u8],
 ) -> Result<Option<Vec<u8>>, FontRefusal>
     requires { length bytes.now ≤ total }
-    ensures { (clear coded : List ℕ)
+    ensures tail { (clear coded : List ℕ)
         → 0 < length coded
         → GivesTail (λ tail. tail.items) clear coded result
         (parts_onto (tailless clear coded) (segments_of total bytes.now)) }
+    ensures behind { IfOk result (λ found. IfSome found
+        (λ _. AreBehind (segments_of total bytes.now))) }
 {
     let mut tail = Vec::new(alloc);
     let mut rest = bytes;

@@ -61,7 +61,7 @@ const SECTION: TopicGroup = TopicGroup {
                 \n\
                 The encrypted part of a PFA file is hexadecimal digits, with blanks between\n\
                 them. Another byte ends it, here before the private text has ended. The place is\n\
-                the number of bytes in front of that byte, the heads of segments not counted.\n\
+                the number of bytes of the file in front of that byte.\n\
                 \n\
                 What to do: get the file anew. One that an editor or a mail program has changed\n\
                 is lost.\n",
@@ -177,8 +177,8 @@ const SECTION: TopicGroup = TopicGroup {
             text: "\t/WeightVector [0.5 0.5] def\n\
                 \n\
                 The outlines of such a font depend on weights, by othersubrs of its own, and it\n\
-                has no metrics without them. The place is the number of bytes in front of\n\
-                /WeightVector, the heads of segments not counted.\n\
+                has no metrics without them. The place is the number of bytes of the file in\n\
+                front of /WeightVector.\n\
                 \n\
                 What to do: make an instance of it, with the weights that are wanted, as\n\
                 'mmpfb --weight=400 font.pfb' does.\n",
@@ -192,7 +192,7 @@ const SECTION: TopicGroup = TopicGroup {
                 \n\
                 The glyphs of such a font have numbers in place of names, and stand in binary\n\
                 data that isn't laid out as a private text is. The place is the number of bytes\n\
-                in front of /CIDFontName.\n\
+                of the file in front of /CIDFontName.\n\
                 \n\
                 What to do: make a font with named glyphs of it, as 'tx -t1 -decid' does.\n",
             note: "",

@@ -1,7 +1,7 @@
 use Rattle.std.proofs.Common.{◌≡◌, ◌≤◌, ◌==◌, ◌++◌, ℕ, List, length, false, Ok, Some, sym, ap, ◌∙◌, rules}
 use Rattle.t1_disassemble.specs.SegmentsFound.{found_segment}
 use Rattle.t1_disassemble.specs.SegmentsRead.{placed_segment, segments_of, parts_onto}
-use Rattle.t1_disassemble.proofs.InPlaceLaws.{tailed, tail_more}
+use Rattle.t1_disassemble.proofs.InPlaceLaws.{tailed, tail_more, behind_more}
 use Rattle.t1_disassemble.proofs.segments.text_left.Goals as goal
 
 pub loop-tail-preserved : goal.loop-tail-preserved
@@ -17,5 +17,6 @@ loop-tail-preserved c =
           ap (λ (l : List ℕ). parts_onto (tailed clear coded l) (segments_of c.args.total found.after.now)) items
           ∙ sym (tail_more clear coded c.loop-tail.tail.items c.args.total c.loop-tail.rest.now (found_segment found).0 found.after.now some here kind)
           ∙ i.parts clear coded some;
+      behind = λ are. i.behind (behind_more c.args.total c.loop-tail.rest.now (found_segment found).0 found.after.now here kind are);
       within = within;
     }

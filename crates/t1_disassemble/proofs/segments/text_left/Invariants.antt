@@ -1,5 +1,5 @@
 use Rattle.std.proofs.Common.{◌≡◌, ◌≤◌, ◌<◌, ℕ, List, length}
-use Rattle.t1_disassemble.specs.InPlace.{tailless}
+use Rattle.t1_disassemble.specs.InPlace.{tailless, AreBehind}
 use Rattle.t1_disassemble.specs.SegmentsRead.{segments_of, parts_onto}
 use Rattle.t1_disassemble.proofs.InPlaceLaws.{tailed}
 use Rattle.t1_disassemble.proofs.segments.text_left.Given as goal
@@ -8,6 +8,7 @@ use Rattle.t1_disassemble.proofs.segments.text_left.Given as goal
 abbrev pub invariant-loop-tail : goal.invariant-loop-tail
 invariant-loop-tail l = record {
   parts : (clear coded : List ℕ) → 0 < length coded → parts_onto (tailed clear coded l.tail.items) (segments_of l.total l.rest) ≡ parts_onto (tailless clear coded) (segments_of l.total l.bytes);
+  behind : AreBehind (segments_of l.total l.rest) → AreBehind (segments_of l.total l.bytes);
   within : length l.rest ≤ l.total;
 }
 
