@@ -112,8 +112,8 @@ impl<'a> OpenBatch<'a> {
     }
 
     /// Makes an edit in the batch that is open on a source and its pairs, or answers the first edit
-    /// rule that it breaks and changes nothing, as where memory runs out. No glyph is run. The entry
-    /// is looked for by a hint, which is true of this source, and of copies tells a place alone.
+    /// rule that it breaks and changes nothing, as where memory runs out. No glyph is run. The
+    /// entry is looked for by a hint, which is true of this source, and of copies tells a place.
     pub fn edit(
         &mut self,
         alloc: Global,

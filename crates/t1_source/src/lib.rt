@@ -8,8 +8,9 @@
 //!
 //! For users: [`read_source`]; a [`Source`], its text and its parts, with [`Item`];
 //! [`Source::edited`], with [`Edit`], [`Rule`] and [`Cause`]. For the crates above:
-//! [`Source::prepared`], [`Source::prepared_near`] with [`Hint`], [`Source::commit`] and [`Change`],
-//! [`Source::names_by_code`], and [`body_words`]. The pairs that an edit takes are those of `t1_pairs`.
+//! [`Source::prepared`], [`Source::prepared_near`] with [`Hint`], [`Source::commit`] and
+//! [`Change`], [`Source::names_by_code`], and [`body_words`]. The pairs that an edit takes are
+//! those of `t1_pairs`.
 #![tactic(auto)]
 
 mod codes;
