@@ -16,7 +16,7 @@ GHOST_ITEM = re.compile(r"ghost (\w+)(?: =|:) \{")
 OPENING = re.compile(r"[{;]")
 BRACE = re.compile(r"[{}]")
 HEAD_PART = re.compile(r"[()\[\]{;]|\b(?:requires|ensures)\b")
-CLAUSE = re.compile(r"(requires|ensures)\b *(\w*) *\{")
+CLAUSE = re.compile(r"(requires|ensures)\b\*? *(\w*) *\{")
 
 
 class Function:

@@ -12,12 +12,11 @@ ghost use Rattle.t1_cache.specs.Recorded.{kept_of};
 ghost use Rattle.t1_cache.specs.Users.{is_name_among, is_key_among, lists, users_at, users_of};
 ghost use Rattle.t1_cache.specs.Users.{HasUserRoom};
 
-use crate::records::{GlyphRecord, Names, Records, SubrRecord};
+use crate::boxed::BoxedRecord;
+use crate::records::{Names, Records, SubrRecord};
 use indexmap::IndexSet;
 use std::alloc::{AllocError, Global};
-use t1_afm::BBox;
 use t1_code::Body;
-use t1_extent::KeptRun;
 
 /// Puts another body into the record of a Subr, where it has one. It takes no memory and can't
 /// fail.
@@ -40,8 +39,8 @@ pub fn put_glyph(records: &mut Records, name: &[u8], body: Body)
     ensures kept { map kept_of records.new.glyphs.entries ≡ map kept_of records.old.glyphs.entries }
     ensures room { UsesUp 0 records.old records.new }
 {
-    if let Some(record) = records.glyphs.get_mut(name) {
-        record.body = body;
+    if let Some(glyph) = records.glyphs.get_mut(name) {
+        glyph.record_mut().body = body;
     }
 }
 
@@ -71,18 +70,17 @@ pub fn insert_subr(
     Ok(())
 }
 
-/// Puts in the record of a glyph that has none, after the others, without users. Where memory runs
-/// out all stays as it was; in room that was made it doesn't.
+/// Puts in a record without users of a glyph that has none, after the others. Where memory runs out
+/// all stays as it was; in room that was made it doesn't.
 pub fn insert_glyph(
-    alloc: Global,
     records: &mut Records,
     name: Vec<u8>,
-    body: Body,
-    run: KeptRun,
-    bbox: Option<BBox>,
+    entry: BoxedRecord,
 ) -> Result<(), AllocError>
-    requires { body_at (record_bodies records.old) (Glyph name.items) ≡ None }
-    ensures bodies { OnOk result (SetsBody (Glyph name.items) (Some body) records.old records.new) }
+    requires none { body_at (record_bodies records.old) (Glyph name.items) ≡ None }
+    requires unused { entry.users.keys ≡ [] }
+    ensures bodies { OnOk result
+        (SetsBody (Glyph name.items) (Some entry.body) records.old records.new) }
     ensures users { OnOk result
         ((k : Key) (u : List ℕ) → lists records.new k u ≡ lists records.old k u) }
     ensures room { OnOk result
@@ -91,17 +89,11 @@ pub fn insert_glyph(
         → HasUserRoom count (users_at records.new k)) }
     ensures kept { OnOk result
         (map kept_of records.new.glyphs.entries
-        ≡ map kept_of records.old.glyphs.entries ++ kept name.items run bbox ∷ []) }
+        ≡ map kept_of records.old.glyphs.entries ++ kept name.items entry.run entry.bbox ∷ []) }
     ensures refused { OnErr result (AreSameRecords records.old records.new) }
     ensures succeeds { 0 < spare records.old.glyphs → IsOk result }
 {
-    let record = GlyphRecord {
-        body,
-        run,
-        bbox,
-        users: IndexSet::new(alloc),
-    };
-    records.glyphs.insert(name, record)?;
+    records.glyphs.insert(name, entry)?;
     Ok(())
 }
 
@@ -118,7 +110,7 @@ pub fn put_in_subr(records: &mut Records, number: u16, entry: SubrRecord)
 
 /// Puts in a whole record of a glyph after the others, in room that was made; one that was there
 /// goes. It takes no memory and can't fail.
-pub fn put_last_glyph(records: &mut Records, name: Vec<u8>, entry: GlyphRecord)
+pub fn put_last_glyph(records: &mut Records, name: Vec<u8>, entry: BoxedRecord)
     requires { 0 < spare records.old.glyphs }
     ensures bodies { SetsBody (Glyph name.items) (Some entry.body) records.old records.new }
     ensures users { SetsUsers (Glyph name.items) (Some (users_of entry.users)) records.old
@@ -172,7 +164,7 @@ pub fn remove_glyphs(records: &mut Records, names: &Names)
         return;
     }
     records.glyphs.retain(
-        |name: &Vec<u8>, glyph: &mut GlyphRecord| -> bool
+        |name: &Vec<u8>, glyph: &mut BoxedRecord| -> bool
             ensures { (result
                 ≡ not (is_name_among (λ key. key.items) names.entry.now.keys name.now.items))
                 × (glyph.new ≡ glyph.old) }

@@ -9,8 +9,13 @@
 //! [`laws`] say why this is enough: all else is as it would be from scratch.
 //!
 //! All of it is for the crates above.
+//!
+//! What is proved: which glyphs edits touch (`found`); records renewed, added and taken out in
+//! place; room made among users before any of it (`make_room`); and the laws by which renewed
+//! records are those from scratch.
 #![tactic(auto)]
 
+mod boxed;
 mod changed;
 pub mod laws;
 mod records;
@@ -20,6 +25,7 @@ mod stale;
 mod users;
 mod uses;
 
+pub use boxed::BoxedRecord;
 pub use changed::{
     insert_glyph, insert_subr, put_glyph, put_in_subr, put_last_glyph, put_subr, remove_glyph,
     remove_glyphs, remove_subr,

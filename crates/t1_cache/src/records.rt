@@ -2,6 +2,7 @@
 
 ghost use Rattle.std.specs.Prelude.{Option};
 
+use crate::boxed::BoxedRecord;
 use indexmap::{IndexMap, IndexSet};
 use t1_afm::BBox;
 use t1_code::{Body, Command};
@@ -33,7 +34,7 @@ pub struct GlyphRecord {
 #[derive(Drop)]
 pub struct Records {
     pub subrs: IndexMap<u16, SubrRecord>,
-    pub glyphs: IndexMap<Vec<u8>, GlyphRecord>,
+    pub glyphs: IndexMap<Vec<u8>, BoxedRecord>,
 }
 
 /// The bodies of the Subrs and glyphs that have a record.
@@ -60,7 +61,7 @@ impl StoredBodies for Records {
     fn glyph(&self, name: &[u8]) -> Option<&[Command]> {
         match self.glyphs.get(name) {
             None => None,
-            Some(record) => Some(record.body.commands()),
+            Some(glyph) => Some(glyph.record().body.commands()),
         }
     }
 }

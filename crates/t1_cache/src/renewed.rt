@@ -7,7 +7,8 @@ ghost use Rattle.t1_cache.specs.Recorded.{kept_of};
 ghost use Rattle.t1_cache.specs.Renewed.{with_reruns};
 ghost use Rattle.t1_cache.specs.Users.{glyph_users};
 
-use crate::records::{GlyphRecord, NewRuns};
+use crate::boxed::BoxedRecord;
+use crate::records::NewRuns;
 use indexmap::IndexMap;
 use std::mem;
 use t1_afm::BBox;
@@ -16,7 +17,7 @@ use t1_extent::KeptRun;
 /// Puts a new run and box into the record of a glyph, and gives the old run back; `None` where
 /// there is no such record. It takes no memory and can't fail.
 pub fn renew(
-    glyphs: &mut IndexMap<Vec<u8>, GlyphRecord>,
+    glyphs: &mut IndexMap<Vec<u8>, BoxedRecord>,
     name: &[u8],
     run: KeptRun,
     bbox: Option<BBox>,
@@ -32,7 +33,8 @@ pub fn renew(
 {
     match glyphs.get_mut(name) {
         None => None,
-        Some(record) => {
+        Some(glyph) => {
+            let record = glyph.record_mut();
             record.bbox = bbox;
             Some(mem::replace(&mut record.run, run))
         }
@@ -41,7 +43,7 @@ pub fn renew(
 
 /// Puts new runs and boxes into the records of their glyphs; those of a glyph without a record are
 /// dropped. It takes no memory and can't fail.
-pub fn renew_by_name(glyphs: &mut IndexMap<Vec<u8>, GlyphRecord>, runs: NewRuns)
+pub fn renew_by_name(glyphs: &mut IndexMap<Vec<u8>, BoxedRecord>, runs: NewRuns)
     ensures records { map kept_of glyphs.new.entries
         ≡ with_reruns (reruns_by_name runs.entries) (map kept_of glyphs.old.entries) }
     ensures users { (p : List ℕ)

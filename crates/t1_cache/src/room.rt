@@ -10,7 +10,8 @@ ghost use Rattle.t1_cache.specs.Users.{glyph_rest, glyph_users, lists, rest_of, 
 ghost use Rattle.t1_cache.specs.EditKeys.{key_of};
 ghost use Rattle.t1_cache.specs.Users.{subr_users, users_at, pairs_of_key};
 
-use crate::records::{GlyphRecord, Named, Names, Records, SubrRecord};
+use crate::boxed::BoxedRecord;
+use crate::records::{Named, Names, Records, SubrRecord};
 use indexmap::{IndexMap, IndexSet};
 use std::alloc::{AllocError, Global};
 
@@ -73,7 +74,7 @@ fn reserve_subr(
 
 /// Makes room for so many more users of a glyph, where it has a record.
 fn reserve_glyph(
-    glyphs: &mut IndexMap<Vec<u8>, GlyphRecord>,
+    glyphs: &mut IndexMap<Vec<u8>, BoxedRecord>,
     name: &[u8],
     count: usize,
 ) -> Result<(), AllocError>
@@ -84,7 +85,7 @@ fn reserve_glyph(
 {
     match glyphs.get_mut(name) {
         None => Ok(()),
-        Some(record) => record.users.reserve(count),
+        Some(glyph) => glyph.record_mut().users.reserve(count),
     }
 }
 

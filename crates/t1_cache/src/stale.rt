@@ -9,7 +9,8 @@ ghost use Rattle.t1_run.specs.Touched.{AreStale};
 ghost use Rattle.t1_cache.specs.Users.{among, glyph_users, is_name_among, subr_users};
 ghost use Rattle.t1_cache.specs.EditKeys.{key_of};
 
-use crate::records::{GlyphRecord, Named, Names, Records, SubrRecord};
+use crate::boxed::BoxedRecord;
+use crate::records::{Named, Names, Records, SubrRecord};
 use indexmap::{IndexMap, IndexSet};
 use std::alloc::{AllocError, Global};
 
@@ -31,7 +32,7 @@ fn add_users<'a>(found: &mut IndexSet<&'a [u8]>, users: &'a Names) -> Result<(),
 /// Adds the users of a glyph.
 fn add_users_of<'a>(
     found: &mut IndexSet<&'a [u8]>,
-    glyphs: &'a IndexMap<Vec<u8>, GlyphRecord>,
+    glyphs: &'a IndexMap<Vec<u8>, BoxedRecord>,
     name: &[u8],
 ) -> Result<(), AllocError>
     ensures names { OnOk result
@@ -43,14 +44,14 @@ fn add_users_of<'a>(
 {
     match glyphs.get(name) {
         None => Ok(()),
-        Some(record) => add_users(found, &record.users),
+        Some(glyph) => add_users(found, &glyph.record().users),
     }
 }
 
 /// Adds the users of the names that are there, and theirs, until all are there.
 fn close<'a>(
     found: &mut IndexSet<&'a [u8]>,
-    glyphs: &'a IndexMap<Vec<u8>, GlyphRecord>,
+    glyphs: &'a IndexMap<Vec<u8>, BoxedRecord>,
 ) -> Result<(), AllocError>
     ensures closes { OnOk result
         (Closes (is_name_among (λ name. name.now) found.old.keys)
@@ -88,7 +89,7 @@ fn add_subr_users<'a>(
 /// Adds a glyph that an edit named, and its users.
 fn add_glyph<'a>(
     found: &mut IndexSet<&'a [u8]>,
-    glyphs: &'a IndexMap<Vec<u8>, GlyphRecord>,
+    glyphs: &'a IndexMap<Vec<u8>, BoxedRecord>,
     name: &'a [u8],
 ) -> Result<(), AllocError>
     ensures { OnOk result

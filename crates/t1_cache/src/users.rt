@@ -11,7 +11,8 @@ ghost use Rattle.t1_cache.specs.Users.{lists, rest_of, subr_rest, subr_users, us
 ghost use Rattle.t1_cache.specs.Users.{pairs_of_key};
 ghost use Rattle.t1_cache.specs.Users.{HasUserRoom};
 
-use crate::records::{GlyphRecord, Named, Names, Records, SubrRecord};
+use crate::boxed::BoxedRecord;
+use crate::records::{Named, Names, Records, SubrRecord};
 use indexmap::IndexMap;
 
 /// Takes a name out. It takes no memory and can't fail.
@@ -52,7 +53,7 @@ fn leave_subr(subrs: &mut IndexMap<u16, SubrRecord>, number: u16, name: &[u8])
 }
 
 /// Takes a glyph out of the users of another.
-fn leave_glyph(glyphs: &mut IndexMap<Vec<u8>, GlyphRecord>, part: &[u8], name: &[u8])
+fn leave_glyph(glyphs: &mut IndexMap<Vec<u8>, BoxedRecord>, part: &[u8], name: &[u8])
     ensures users { (p u : List ℕ)
         → among (glyph_users glyphs.new.entries p) u
         ≡ (among (glyph_users glyphs.old.entries p) u && not
@@ -62,8 +63,8 @@ fn leave_glyph(glyphs: &mut IndexMap<Vec<u8>, GlyphRecord>, part: &[u8], name: &
         → HasUserRoom count (glyph_users glyphs.new.entries p) }
     ensures rest { map glyph_rest glyphs.new.entries ≡ map glyph_rest glyphs.old.entries }
 {
-    if let Some(record) = glyphs.get_mut(part) {
-        take_out(&mut record.users, name);
+    if let Some(glyph) = glyphs.get_mut(part) {
+        take_out(&mut glyph.record_mut().users, name);
     }
 }
 
@@ -85,7 +86,7 @@ fn join_subr(subrs: &mut IndexMap<u16, SubrRecord>, number: u16, name: Vec<u8>)
 }
 
 /// Puts a glyph among the users of another, in the room that was made.
-fn join_glyph(glyphs: &mut IndexMap<Vec<u8>, GlyphRecord>, part: &[u8], name: Vec<u8>)
+fn join_glyph(glyphs: &mut IndexMap<Vec<u8>, BoxedRecord>, part: &[u8], name: Vec<u8>)
     requires { HasUserRoom 1 (glyph_users glyphs.old.entries part.now) }
     ensures users { (p u : List ℕ)
         → among (glyph_users glyphs.new.entries p) u
@@ -97,8 +98,8 @@ fn join_glyph(glyphs: &mut IndexMap<Vec<u8>, GlyphRecord>, part: &[u8], name: Ve
         → HasUserRoom count (glyph_users glyphs.new.entries p) }
     ensures rest { map glyph_rest glyphs.new.entries ≡ map glyph_rest glyphs.old.entries }
 {
-    if let Some(record) = glyphs.get_mut(part) {
-        put_in(&mut record.users, name);
+    if let Some(glyph) = glyphs.get_mut(part) {
+        put_in(&mut glyph.record_mut().users, name);
     }
 }
 

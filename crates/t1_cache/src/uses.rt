@@ -109,10 +109,10 @@ pub fn leaves_of(
 {
     let mut pairs = Vec::new(alloc);
     for name in names {
-        let Some(record) = records.glyphs.get(*name) else {
+        let Some(glyph) = records.glyphs.get(*name) else {
             continue;
         };
-        push_uses(alloc, &mut pairs, &record.run, name)?;
+        push_uses(alloc, &mut pairs, &glyph.record().run, name)?;
     }
     Ok(pairs)
 }

@@ -20,9 +20,10 @@ fn kept_glyphs(alloc: Global, records: &Records) -> Result<Vec<GlyphMetrics<'_>>
 {
     let mut metrics = Vec::with_capacity(alloc, records.glyphs.len())?;
     for at in 0..records.glyphs.len() {
-        let Some((name, record)) = records.glyphs.get_index(at) else {
+        let Some((name, glyph)) = records.glyphs.get_index(at) else {
             break;
         };
+        let record = glyph.record();
         metrics.push(metrics_of_run(alloc, name.as_slice(), &record.run, record.bbox)?)?;
     }
     Ok(metrics)

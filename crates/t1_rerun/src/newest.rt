@@ -26,7 +26,7 @@ impl<'a> KeptRuns for Newest<'a> {
         }
         match self.records.glyphs.get(name) {
             None => None,
-            Some(record) => Some(Ok(&record.run)),
+            Some(glyph) => Some(Ok(&glyph.record().run)),
         }
     }
 }

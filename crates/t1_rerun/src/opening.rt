@@ -25,9 +25,11 @@ ghost use Rattle.t1_rerun.specs.Renewals.{HasRun};
 ghost use Rattle.t1_rerun.specs.Right.{IsRight};
 
 use crate::reruns::taken;
-use indexmap::IndexMap;
+use indexmap::{IndexMap, IndexSet};
 use std::alloc::{AllocError, Global};
-use t1_cache::{Records, insert_glyph, insert_subr, joins_of, make_room, move_users};
+use t1_cache::{
+    BoxedRecord, GlyphRecord, Records, insert_glyph, insert_subr, joins_of, make_room, move_users,
+};
 use t1_code::Body;
 use t1_font::{GlyphMetrics, Runs, checked_bodies, glyph_metrics_of, glyph_names, runs_of};
 use t1_frac::Refusal;
@@ -112,7 +114,13 @@ fn insert_glyphs(
         let Some(run) = taken(runs, text) else {
             continue;
         };
-        insert_glyph(alloc, records, name, body, run, glyph.bbox)?;
+        let record = GlyphRecord {
+            body,
+            run,
+            bbox: glyph.bbox,
+            users: IndexSet::new(alloc),
+        };
+        insert_glyph(records, name, BoxedRecord::new(alloc, record)?)?;
     }
     Ok(())
 }

@@ -141,7 +141,7 @@ pub fn metrics_line(
 {
     match records.glyphs.get(name) {
         Some(record) => {
-            let glyph = char_metric(source, name, record);
+            let glyph = char_metric(source, name, record.record());
             Ok(Some(char_line(alloc, &glyph)?))
         }
         None => Ok(None),

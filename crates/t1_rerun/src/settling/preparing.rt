@@ -20,8 +20,8 @@ use crate::entry_change::EntryChange;
 use indexmap::{IndexMap, IndexSet};
 use std::alloc::{AllocError, Global};
 use t1_cache::{
-    Counts, GlyphRecord, Named, Names, NewRun, NewRuns, Records, Rerun, SubrRecord, count_joins,
-    users_of_glyph, users_of_subr,
+    BoxedRecord, Counts, GlyphRecord, Named, Names, NewRun, NewRuns, Records, Rerun, SubrRecord,
+    count_joins, users_of_glyph, users_of_subr,
 };
 use t1_code::Body;
 use t1_frac::Bytes;
@@ -118,6 +118,7 @@ fn glyph_step(
         bbox,
         users,
     };
+    let record = BoxedRecord::new(alloc, record)?;
     Ok(RecordChange::InsertGlyph(name.into_vec(), record))
 }
 

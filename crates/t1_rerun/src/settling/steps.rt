@@ -10,7 +10,7 @@ ghost use Rattle.t1_run.specs.Run.{Key};
 ghost use Rattle.t1_rerun.specs.Steps.{seen_after, after_all, seen, AreTakenOut};
 
 use t1_cache::{
-    GlyphRecord, Named, Names, Records, SubrRecord, put_glyph, put_in_subr, put_last_glyph,
+    BoxedRecord, Named, Names, Records, SubrRecord, put_glyph, put_in_subr, put_last_glyph,
     put_subr, remove_glyph, remove_glyphs, remove_subr,
 };
 use t1_code::Body;
@@ -25,7 +25,7 @@ pub enum RecordChange {
     /// A new record is put in.
     InsertSubr(u16, SubrRecord),
     /// A new record is put in after the others; one that was there goes.
-    InsertGlyph(Vec<u8>, GlyphRecord),
+    InsertGlyph(Vec<u8>, BoxedRecord),
 }
 
 /// Takes out the record of a Subr or a glyph.

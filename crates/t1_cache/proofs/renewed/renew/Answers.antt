@@ -18,24 +18,29 @@ returns-in-None-clause-records c =
 
 pub returns-in-Some-clause-records : goal.returns-in-Some-clause-records
 returns-in-Some-clause-records c =
-    let now : GlyphRecord = record c.in-Some.record.now { run = c.replace.new.dest; bbox = c.args.bbox } in
+    rw c.record_mut-record.ensures.now
+    (let now : GlyphRecord = record c.in-Some.glyph.now { run = c.replace.new.dest; bbox = c.args.bbox } in
     ap (λ es. map kept_of es) (c.get_mut.follows.holds now).0
     ∙ with-put c.args.glyphs.now.entries c.args.name.now now
-    ∙ ap (λ run. with_run c.args.name.now run c.args.bbox (map kept_of c.args.glyphs.now.entries)) c.replace.ensures.after
+    ∙ ap (λ run. with_run c.args.name.now run c.args.bbox (map kept_of c.args.glyphs.now.entries)) c.replace.ensures.after)
 
 pub returns-in-Some-clause-users : goal.returns-in-Some-clause-users
-returns-in-Some-clause-users c = λ p.
-    let now : GlyphRecord = record c.in-Some.record.now { run = c.replace.new.dest; bbox = c.args.bbox } in
+returns-in-Some-clause-users c =
+    rw c.record_mut-record.ensures.now
+    (λ p.
+    let now : GlyphRecord = record c.in-Some.glyph.now { run = c.replace.new.dest; bbox = c.args.bbox } in
     ap (λ es. glyph_users es p) (c.get_mut.follows.holds now).0
-    ∙ reads-stay bytes_eq bytes_tell (λ k. k.items) (λ r. users_of r.users) c.args.glyphs.now.entries c.args.name.now c.in-Some.record.now now
-    (sym c.in-Some.ensures.value) refl p
+    ∙ reads-stay bytes_eq bytes_tell (λ k. k.items) (λ r. users_of r.users) c.args.glyphs.now.entries c.args.name.now c.in-Some.glyph.now now
+    (sym c.in-Some.ensures.value) refl p)
 
 pub returns-in-Some-clause-bodies : goal.returns-in-Some-clause-bodies
-returns-in-Some-clause-bodies c = λ p.
-    let now : GlyphRecord = record c.in-Some.record.now { run = c.replace.new.dest; bbox = c.args.bbox } in
+returns-in-Some-clause-bodies c =
+    rw c.record_mut-record.ensures.now
+    (λ p.
+    let now : GlyphRecord = record c.in-Some.glyph.now { run = c.replace.new.dest; bbox = c.args.bbox } in
     ap (λ es. glyph_body es p) (c.get_mut.follows.holds now).0
-    ∙ reads-stay bytes_eq bytes_tell (λ k. k.items) (λ r. r.body) c.args.glyphs.now.entries c.args.name.now c.in-Some.record.now now
-    (sym c.in-Some.ensures.value) refl p
+    ∙ reads-stay bytes_eq bytes_tell (λ k. k.items) (λ r. r.body) c.args.glyphs.now.entries c.args.name.now c.in-Some.glyph.now now
+    (sym c.in-Some.ensures.value) refl p)
 
 pub returns-in-None-clause-once : goal.returns-in-None-clause-once
 returns-in-None-clause-once c = entries-once c.args.glyphs.now.entries c.get_mut.ensures.unique

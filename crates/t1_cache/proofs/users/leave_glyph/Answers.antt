@@ -7,19 +7,24 @@ use Rattle.t1_cache.proofs.Putting.{left, rest-put, room-stays}
 use Rattle.t1_cache.proofs.users.leave_glyph.Goals as goal
 
 pub returns-in-Some-clause-users : goal.returns-in-Some-clause-users
-returns-in-Some-clause-users c = λ q u.
-    let now : GlyphRecord = record c.in-Some.record.now { users = c.take_out.new.names } in
+returns-in-Some-clause-users c =
+    rw c.record_mut.ensures.now
+    (λ q u.
+    let now : GlyphRecord = record c.in-Some.glyph.now { users = c.take_out.new.names } in
     ap (λ es. among (glyph_users es q) u) (c.get_mut.follows.holds now).0
-    ∙ left bytes_eq bytes_tell (λ k. k.items) (λ r. users_of r.users) c.args.glyphs.now.entries c.args.part.now c.in-Some.record.now now c.args.name.now (sym c.in-Some.ensures.value) c.take_out.ensures.names q u
+    ∙ left bytes_eq bytes_tell (λ k. k.items) (λ r. users_of r.users) c.args.glyphs.now.entries c.args.part.now c.in-Some.glyph.now now c.args.name.now (sym c.in-Some.ensures.value) (rw c.record_mut.ensures.now at c.take_out.ensures.names) q u)
 
 pub returns-in-Some-clause-room : goal.returns-in-Some-clause-room
-returns-in-Some-clause-room c = λ q count had.
-    let now : GlyphRecord = record c.in-Some.record.now { users = c.take_out.new.names } in
+returns-in-Some-clause-room c =
+    rw c.record_mut.ensures.now
+    (λ q count had.
+    let now : GlyphRecord = record c.in-Some.glyph.now { users = c.take_out.new.names } in
     subst (λ es. HasUserRoom count (glyph_users es q)) (sym (c.get_mut.follows.holds now).0)
-    (room-stays bytes_eq bytes_tell (λ k. k.items) (λ r. users_of r.users) c.args.glyphs.now.entries c.args.part.now c.in-Some.record.now now (sym c.in-Some.ensures.value) c.take_out.ensures.room q count had)
+    (room-stays bytes_eq bytes_tell (λ k. k.items) (λ r. users_of r.users) c.args.glyphs.now.entries c.args.part.now c.in-Some.glyph.now now (sym c.in-Some.ensures.value) (rw c.record_mut.ensures.now at c.take_out.ensures.room) q count had))
 
 pub returns-in-Some-clause-rest : goal.returns-in-Some-clause-rest
 returns-in-Some-clause-rest c =
-    let now : GlyphRecord = record c.in-Some.record.now { users = c.take_out.new.names } in
+    rw c.record_mut.ensures.now
+    (let now : GlyphRecord = record c.in-Some.glyph.now { users = c.take_out.new.names } in
     ap (λ es. map glyph_rest es) (c.get_mut.follows.holds now).0
-    ∙ rest-put glyph_rest c.args.glyphs.now.entries (λ k. bytes_eq c.args.part.now k.items) c.in-Some.record.now now (sym c.in-Some.ensures.value) (λ k. refl)
+    ∙ rest-put glyph_rest c.args.glyphs.now.entries (λ k. bytes_eq c.args.part.now k.items) c.in-Some.glyph.now now (sym c.in-Some.ensures.value) (λ k. refl))

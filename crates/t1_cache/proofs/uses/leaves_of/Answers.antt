@@ -30,9 +30,9 @@ loop-name-preserved c = λ k u.
     let none : Bor (List ℕ) = record { ref_ptr = (0, 0); now = [] } in
     let name = (get_or names i none).now in
     let used = is_user k (recorded_run records u) in
-    let drawing = c.in-Some.record.now.run.drawing in
+    let drawing = c.in-Some.glyph.now.run.drawing in
     let asked = asks drawing.composite drawing.entered k in
-    c.in_ok-push_uses.ensures k u
+    (rw c.record.ensures at c.in_ok-push_uses.ensures) k u
     ∙ ap (λ b. b || (asked && bytes_eq u name)) (c.loop-name.invariant k u)
-    ∙ glyph-more (is_name_among (λ n. n.now) (take i names) u) used asked (bytes_eq u name) (run-used records k u name c.in-Some.record.now c.in-Some.ensures.value)
+    ∙ glyph-more (is_name_among (λ n. n.now) (take i names) u) used asked (bytes_eq u name) (run-used records k u name c.in-Some.glyph.now c.in-Some.ensures.value)
     ∙ ap (λ b. b && used) (sym (list_any_more (λ n. bytes_eq u n.now) names i none (omega arith)))

@@ -48,11 +48,11 @@ loop-glyph-preserved c =
     c.in-Some-taken.run' (sym c.in-Some-taken.is ∙ c.taken.ensures.run ∙ ap (λ n. run_in (run_kept runs n)) c.as_slice-text.ensures)
     c.taken_body.new.bodies.entries (λ g. c.taken_body.ensures.others g ∙ ap (λ n. cond (bytes_eq n g) None (glyph_body_kept bodies g)) c.as_slice-text.ensures)
     c.taken.new.runs (λ g. c.taken.ensures.others g ∙ ap (λ n. cond (bytes_eq n g) None (run_kept runs g)) c.as_slice-text.ensures)
-    new (subst (λ n. SetsBody (Glyph n) (Some c.in-Some.body) now new) name reported.bodies) reported.users
-    (reported.kept ∙ ap (λ n. map kept_of now.glyphs.entries ++ kept n c.in-Some-taken.run' m.bbox ∷ []) name)
+    new (subst (λ n. SetsBody (Glyph n) (Some c.in-Some.body) now new) name (rw c.in_ok-new.ensures at reported.bodies)) reported.users
+    ((rw c.in_ok-new.ensures at reported.kept) ∙ ap (λ n. map kept_of now.glyphs.entries ++ kept n c.in-Some-taken.run' m.bbox ∷ []) name)
 
-pub insert_glyph-requires : goal.insert_glyph-requires
-insert_glyph-requires c =
+pub insert_glyph-requires-clause-none : goal.insert_glyph-requires-clause-none
+insert_glyph-requires-clause-none c =
     ap (λ n. body_at (record_bodies c.loop-glyph.records) (Glyph n)) (c.in_ok-name.ensures.items ∙ c.as_slice-text.ensures)
     ∙ glyph-apart c.args.records.now c.args.bodies.now.entries c.loop-glyph.bodies.entries c.args.runs.now c.loop-glyph.runs c.args.metrics.now c.loop-glyph.glyph-index
     c.loop-glyph.records c.requires.distinct c.loop-glyph.invariant c.glyph-item.result c.loop-glyph-test.true c.glyph-item.is
