@@ -1,3 +1,4 @@
+#![tactic(auto)]
 //! The encrypted charstrings of a font's entries, kept under edits.
 //!
 //! [`charstrings_of`] encrypts the charstrings of a source, or gives the first fault of its bodies.
@@ -14,7 +15,13 @@
 //! are encrypted anew; nothing of a source is copied.
 //!
 //! All of it is for the crates above.
-#![tactic(auto)]
+//!
+//! What is proved: `charstrings_of`, the encrypted charstrings of a source (`AreEncrypted`), or the
+//! first fault of a body. `write_kept_file`: the same file as `t1_font`'s by them (`file_in`).
+//! `check_length`: F23 by the length of the private text (`length_check`), which `laws` give after
+//! an edit. `prepare_lines` judges the file of the edited source and makes ready what changes
+//! (`IsReadyLines`): the charstrings of the named entries alone, unless lenIV was set.
+//! `settle_lines` puts it in place.
 
 mod anew;
 mod batch;

@@ -1,3 +1,4 @@
+#![tactic(auto)]
 //! Charstring code, its encryption, and the PFB and PFA files of an assembled font.
 //!
 //! For users: [`compile`], [`assemble`] and [`encrypt`], with [`Body`], [`Command`] and
@@ -5,7 +6,23 @@
 //! [`Parts`] and [`Piece`] with [`write_pfb`], whole or in blocks ([`WHOLE_PARTS`]), and
 //! [`write_pfa`]. The rest is for the crates above: code added to what is there, the chunk before a
 //! writer, lengths of files, and both forms of a file as one ([`FileForm`]).
-#![tactic(auto)]
+//!
+//! What is proved, beside what the comment at each call says:
+//!
+//! - `compile`, `assemble`: the commands of the words and their code; or F22; else, at the first
+//!   faulty word, F20 or F21 (`commands`, `charstring_of_words`). `compile_onto`, `assemble_onto`
+//!   add them behind what stands there; `encrypt_words` encrypts them.
+//! - `encrypt`, `encrypted_charstring`: `cipher` of the leading zeros and the bytes;
+//!   `laws::cipher_by_places` says what that is, byte by byte. `laws` on spellings: none begins
+//!   another's, bytes spell at most one list, compiled code spells its commands and has at most
+//!   five bytes a word.
+//! - `Counted`: what each call did to the known bytes, and the count of failures. `put_all`: all
+//!   bytes, or a beginning and one failure.
+//! - `write_pfb`, `write_pfa`, `write_file`: `Prints` of the file in segments of so many bytes
+//!   (`file_of`), in hexadecimal (`hexadecimal_file_of`), in any `FileForm`; F23 with nothing
+//!   written. `pfb_len`, `pfa_len`: the lengths of these files (`length_of`). `laws`: a part that
+//!   the limit allows is one segment of the largest block length, and blocks hold the part.
+//! - `standard_name`, `is_standard_name`, `standard_table`: the 149 names of StandardEncoding.
 
 mod assembly;
 mod body;

@@ -6,6 +6,16 @@
 //! words.
 //!
 //! All of it is for the program.
+//!
+//! What is proved, beside what the comment at each call says:
+//!
+//! - `command`: the commands, their arguments, which of these must be there, and their letters
+//!   (`program`).
+//! - `all_sections`: the codes of each section in their order (`of_program`).
+//! - `explanation`: the text of the first topic with the code (`before_space`, `topic_of`,
+//!   `whole_text`), the list of all without one (`list_text`). `meaning`: what it says of a code in
+//!   a few words. The words of these texts aren't proved: a test tries each example that the table
+//!   shows.
 #![tactic(auto)]
 
 mod command_line;

@@ -7,6 +7,16 @@
 //!
 //! All of it is for `t1_refusal` and `t1_session`, and for the program, which takes [`put_fault`]
 //! and [`block_size_of_word`].
+//!
+//! What is proved, beside what the comment at each call says:
+//!
+//! - `line_command`, `body_command`, `open_command`: the command of a line's words, with its body,
+//!   or with one that the input left open; or out of memory, only for an edit that holds bytes
+//!   (`Makes`). `takes_body`, `ends_body`, `is_blank_line`: the values of the definitions of these
+//!   names (`is_wordless` for the third). `block_size`, `block_size_of_word`: a number word from 1
+//!   to 2147483647.
+//! - `put_answer`: `answer_text` is written, whole or up to a failed write. `PfbData`, `PfaData`: a
+//!   file as an answer's data, after its length.
 #![tactic(auto)]
 
 mod answer;

@@ -1,4 +1,8 @@
 //! A font read back: the segments of its file, its encryption undone, its charstrings as words.
+//!
+//! What is proved: the source of a font's file, or its first fault with its place, is the one that
+//! is defined (`disassembled`). That the file is assembled again of it are laws of `t1_round_trip`;
+//! docs/DISASSEMBLE.md says what is laid out anew.
 #![tactic(auto)]
 
 mod charstring;

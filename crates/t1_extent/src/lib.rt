@@ -2,6 +2,11 @@
 //!
 //! All of it is for the crates above, which keep a run as a [`KeptRun`] and have a glyph's box by
 //! [`box_of`].
+//!
+//! What is proved: `KeptRun`: contracts see it as the whole run, whatever memory holds. `box_of`: a
+//! glyph's box by such runs, or its first fault (`drawn_box` of `outline_within`). `laws`: the box,
+//! and whether a move breaks a limit, follow from the exact extremes. `Shadow`: a ghost copy of a
+//! value.
 #![tactic(auto)]
 
 mod boxes;

@@ -6,6 +6,11 @@
 //! [`GlyphNames`] of the composites that stand on the glyphs that it names.
 //! [`laws`] says what the list has to do with what `check` reports. Where a source has no fault,
 //! the list costs what `check` costs.
+//!
+//! What is proved: `laws` say of the list of `source_faults`, which `t1edit faults` writes
+//! (`faults_on`): it is empty exactly where `check` passes; what `check` reports is in it, or its
+//! glyph stands on one that is, or its run met one in a Subr; that glyph is named in it; each word
+//! that it tells stands at its line and column, and each composite on a glyph that the fault names.
 #![tactic(auto)]
 
 mod call_chains;

@@ -1,3 +1,4 @@
+#![tactic(auto)]
 //! A whole font: its bodies compiled, its glyphs run once each and measured, its PFB and AFM files
 //! written.
 //!
@@ -11,7 +12,24 @@
 //!
 //! All of it is for the crates above. Users take the same from `t1_session`, whose calls read the
 //! source too.
-#![tactic(auto)]
+//!
+//! What is proved, beside what the comment at each call says:
+//!
+//! - `compiled`: for each number and each name the first body (`bodies`), or the first fault of
+//!   one, at its entry (`bodies_check`). `checked_bodies` judges the file too (`file_check`), by
+//!   lengths and counts.
+//! - `measured_glyphs`: name, width, parts and box of each glyph in order, and the font's box; or
+//!   the first fault: of a body, F23, or of a glyph, at the glyph: of its own run, else of a part,
+//!   else of the join (`measured_source`). Each glyph's turn counts one run.
+//! - `metrics`: glyphs by their codes and then in the source's order, the pairs whose both glyphs
+//!   are there, the composites with the move of their accents (`metrics_of`).
+//! - `write_source_pfb`, `write_source_pfa`, `write_source_afm`: `Prints` of the source's files.
+//!   `usage_text`: `usage_table`.
+//! - `runs_of`: the meter's count on every outcome; each kept run is numbered above the count
+//!   before the call.
+//! - `laws`: a glyph's fault is the first of the outlines (`outlines`). A source without a fault
+//!   reads back from its text (`faultless_source_reads_back`). A file is judged over the bodies of
+//!   Subrs, then over those of glyphs, then by F23 (`subrs_are_judged_first`).
 
 mod afm_file;
 mod assembly;

@@ -4,6 +4,16 @@
 //! For users: [`Frac`]; [`Code`], [`Place`], [`Fault`] and [`Refusal`], in which the calls of all
 //! crates answer what is wrong; [`Bytes`], [`SourceText`], [`Words`] and [`OwnedWords`], which
 //! calls take and give. The functions on number words and blanks are for the crates above.
+//!
+//! What is proved, beside what the comment at each call says:
+//!
+//! - `Frac::add`, `sub`, `div`: the exact result in lowest terms, or the first fault of its order
+//!   (`coordinate_sum`, `coordinate_difference`, `quotient`); `floor`, `ceil`, `nearest`, `cmp` are
+//!   exact. `laws`: lowest terms are the same number, and those of equal fractions are equal; equal
+//!   fractions round alike; a whole number that is added moves what they round to by itself.
+//! - `next_word`, `Words::of`, `OwnedWords::push_line`: the longest runs between blanks (`words`),
+//!   wherever their bytes stand.
+//! - `number_word`: the number of a number word, as far as it fits 64 bits.
 #![tactic(auto)]
 
 mod bytes;

@@ -1,3 +1,4 @@
+#![tactic(auto)]
 //! What is held of a font under edits: the records of its Subrs and glyphs, their encrypted
 //! charstrings, and the length of its private text.
 //!
@@ -10,7 +11,18 @@
 //! The edits of an open batch gather in a [`Batch`], which is a source of its own until its commit.
 //!
 //! All of it is for `t1_session`.
-#![tactic(auto)]
+//!
+//! What is proved, beside what the comment at each call says:
+//!
+//! - `held_of`, all of it together (`IsHeld`), or the source's first fault. `prepare_edits` judges
+//!   what an edit or a batch makes, runs the stale glyphs, and makes all that takes memory
+//!   (`IsReadyHeld`), while what is held stays; unless lenIV was set, only entries that the edits
+//!   name are encrypted (`EncryptsAt`). `settle` takes no memory and can't fail; what is held then
+//!   is that of the edited source from scratch. `held_metrics`, `write_held_file`: metrics and
+//!   files by it.
+//! - A batch: `Batch::of`, `edit` (`Drafts`): the source and the pairs after the edits so far, and
+//!   the entries that they name; a broken rule, or out of memory, changes nothing. `batch_changes`:
+//!   what became of these entries, or the first fault of one (`AreBatchChanges`).
 
 mod batch;
 mod edits;

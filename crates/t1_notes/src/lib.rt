@@ -7,6 +7,9 @@
 //!
 //! These three and the notes are for the program. Lines, sections and lists of notes as one are for
 //! the crate above, whose notes stand on runs of the glyphs.
+//!
+//! What is proved: `notes_of`: the notes of a text, by its lines, whether or not it can be read;
+//! `notes_text`: their lines.
 #![tactic(auto)]
 
 mod bodies;

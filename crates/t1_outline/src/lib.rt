@@ -1,3 +1,4 @@
+#![tactic(auto)]
 //! The outline of a glyph with its parts, as text.
 //!
 //! [`glyph_outline`] runs a glyph and its parts by their stored bodies, and gives the text of the
@@ -9,7 +10,15 @@
 //! each glyph that is run.
 //!
 //! All of it is for the crates above.
-#![tactic(auto)]
+//!
+//! What is proved, beside what the comment at each call says:
+//!
+//! - `glyph_outline`: the text of the outline with its parts, exact, or its first fault, at the
+//!   glyph; nothing where there is no such glyph; one run for each glyph that is run
+//!   (`outline_runs`). `outline_text`: the text of any outline.
+//! - `laws`: over the bodies of a source without a fault this is what the source shows from scratch
+//!   (`StoredOutlineLaw`); a glyph of it is shown without a fault (`GlyphShownLaw`), another name
+//!   isn't (`OtherShownLaw`).
 
 pub mod laws;
 mod outlining;

@@ -7,6 +7,10 @@
 //! For users: [`read_pairs`], and of [`Pairs`] the pairs one after another, their number, the text
 //! and the copy. What changes pairs in place is for `t1_source`: its caller has to know that they
 //! stay in order.
+//!
+//! What is proved: `read_pairs` and `Pairs::text` are `pairs` and `kern`, and printed pairs read
+//! back as themselves. `place_of` finds where two names stand, or would; `put`, `insert` and
+//! `remove` keep printed order, each pair once (`are_pairs`).
 #![tactic(auto)]
 
 pub mod laws;

@@ -4,6 +4,10 @@
 //!
 //! All of it is for the crates above. Users meet [`Item`], which `t1_source` passes on, and
 //! [`Items`], which a source gives.
+//!
+//! What is proved: the parts and the bodies that are cut from the bytes are those of the lines
+//! (`IsCut`, `IsPiece`), or the fault is the first, with its line. What a whole source is read as
+//! `t1_source` says.
 #![tactic(auto)]
 
 mod alone_items;

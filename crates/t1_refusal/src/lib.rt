@@ -7,6 +7,9 @@
 //! [`entry_words`] find the entries of a source.
 //!
 //! All of it is for `t1_session`.
+//!
+//! What is proved: `refusal_text`: what a session tells of a refused source: its first fault, the
+//! word at fault, and the way of the run.
 #![tactic(auto)]
 
 mod entries;

@@ -1,3 +1,4 @@
+#![tactic(auto)]
 //! The records of a font, from scratch and after an edit that is judged by the glyphs that it makes
 //! stale.
 //!
@@ -13,7 +14,14 @@
 //! that one edit names [`change_of_edit`] gives, and [`change_alone`] the list of it.
 //!
 //! All of it is for the crates above.
-#![tactic(auto)]
+//!
+//! What is proved: `opened_records`, the records of a source from scratch. `prepare_changes` judges
+//! the edited source by the records' bodies under the changes (`edited_bodies`), runs the stale
+//! glyphs alone, each once (`rerun`, `counted`), and makes all allocations; it answers the first
+//! fault, and what contracts see of the records stays (`same`). `settle_ready` makes the change,
+//! takes no memory and can't fail: the records are right for the edited source (`right`), and those
+//! that aren't stale keep the numbers of their runs (`renews`). `measured_records`: the metrics by
+//! right records are those from scratch.
 
 mod bodies;
 mod changing;

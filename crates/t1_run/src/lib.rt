@@ -6,6 +6,17 @@
 //! [`Entered`], and the moves of accents, points and segments; [`State`] with [`Control`], [`Halt`]
 //! and [`find_parts`], by which a body is run word by word, to see at which word it fails, and
 //! [`takes`], [`standard_glyph`] and [`Recorded`], by which is told why.
+//!
+//! What is proved, beside what the comment at each call says:
+//!
+//! - `run_of_body`: what a body draws, its width, side bearing, Subrs entered and steps, or its
+//!   first fault (`own`); the meter's count as its serial. It says so of a body that is some
+//!   glyph's of the font, and of another nothing but the counts. `run`: the same of the glyph of a
+//!   name. `join`: a composite's outline (`joined`).
+//! - `laws`: a run, and an outline with all its parts, is the same in all fonts that agree on its
+//!   footprint. The footprint of a run without a fault is the glyph, the Subrs entered and the
+//!   parts. F47 comes exactly past 100,000 steps. What is drawn stays within the limits. A glyph
+//!   that edits don't touch has the same run and outline after them (`untouched`).
 #![tactic(auto)]
 
 mod bodies;

@@ -3,10 +3,14 @@
 //!
 //! For the opening, and for each command but a print, it writes a line: how many runs of glyphs
 //! there were by then, whether a batch is open, and the answer. A print is written as it is, with a
-//! line end. Edits are made by `try_apply`. Where one met want of memory, a line says so, all
+//! line end. Edits are made by `try_apply`. Where one ran out of memory, a line says so, all
 //! prints follow, and the edit that came back is made by `apply`.
 //!
 //! `t1_runs serve SOURCE < COMMANDS` serves a session, and writes a line wherever it is flushed.
+//!
+//! What is proved: `apply`, `begin`, `commit` and `abort` are the session's own commands (`Takes`),
+//! and so is `try_apply`, with the edit that comes back (`TakesOrReturns`). The rest has no
+//! contracts.
 #![tactic(auto)]
 
 mod calls;

@@ -1,6 +1,9 @@
 //! The text of a readable source: its lines, the tokens of a line, names and decimal numbers.
 //!
 //! All of it is for the crates above, which read sources and kerning files by it.
+//!
+//! What is proved: the lines, tokens and names of a text are those of `lines`, `tokens` and
+//! `is_name`.
 #![tactic(auto)]
 
 mod lines;

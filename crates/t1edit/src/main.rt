@@ -1,5 +1,33 @@
-//! `t1edit`: the command line over whole fonts.
 #![tactic(auto)]
+//! `t1edit`: the command line over whole fonts.
+//!
+//! What is proved, beside what the comment at each call says:
+//!
+//! - `run_ending`: the exit status of each outcome (`status_of_run`), and its line on standard
+//!   error (`ReportsRun`, `error_line`, `misuse_line`); whole or up to a failed write; nothing if
+//!   all was done.
+//! - `form_of`, `assemble_as`: the form that the options ask for, or the misuse of a block length
+//!   (`form`), and the file in it (`file_in_form`). `disassemble_to`: the source of a font's file
+//!   (`DeliversSource`, `disassembled`). `explain`: `explanation`.
+//! - `assemble_file`, `measure_file`, `serve_file` and `check_file` do so on the bytes of a file,
+//!   which is a source, or with `--font` the font that is disassembled first (`source_in`).
+//!   `check_files` goes through several: each one's line, and the worst status.
+//! - `report_files` goes through files whose faults or notes are told: what a report says of each
+//!   (`ReportsEach`), and the worst status. `faults_on`: the faults of a source, or that of a
+//!   kerning file, as lines or objects (`faults_on`, `has_faults`). `notes_on`: the notes of a
+//!   source, and those of a kerning file beside it (`notes_on`, `has_notes`).
+//! - `read_whole`: the bytes of a reader up to its end; or `Refused`, only if a read failed; or
+//!   `Memory`, only if none did. `with_reason`: how a file that can't be read is told
+//!   (`TellsUnread`); of reasons but three the words are the system's.
+//! - `Output::open`: standard output if there is no path or it is `-` (`OpensByWord`). It fails by
+//!   `Unopened`: that memory ran out is a value made of the error of a call that says so, and
+//!   nothing else makes one (`IsToldOf`).
+//! - `Output::finish`: `Ok` only if the call before it was, whose error stays the answer otherwise;
+//!   then a failed write is the only error (`HandsOn`). At `Ok` a draft has taken its place
+//!   (`EndsAs`), as far as a value can say it: `Stood` is made by the call that renames the draft,
+//!   which asks for a value of the one that puts it on the disk, and that for one of the call that
+//!   gives it its permissions (`draft/steps.rt`). That these three do so, and what else becomes of
+//!   files, is tested.
 
 mod assembling;
 mod checking;
