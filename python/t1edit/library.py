@@ -15,7 +15,7 @@ NAMED_BY = "T1EDIT_LIBRARY"
 VERSION = 1
 DONE, REFUSED, MEMORY, UNTOLD, MISUSED = range(5)
 ROOM = 65536
-# The statuses of the program for a font with a fault, and for want of memory.
+# The statuses of the program for a font with a fault, and where memory ran out.
 FAULT, WANT = 1, 4
 
 
@@ -59,7 +59,7 @@ def rows_of_faults(path: str, source: bytes, pairs: bytes) -> List[List[str]]:
         buffer = ctypes.create_string_buffer(room)
         status = library.t1edit_faults(source, len(source), pairs, len(pairs), buffer, room, ctypes.byref(length))
         if status == MEMORY:
-            raise Stopped("the library ended with want of memory", WANT)
+            raise Stopped("the library ended out of memory", WANT)
         if length.value <= room:
             return [line.split("\t") for line in buffer.raw[: length.value].decode("ascii").split("\n")[:-1]]
         room = length.value

@@ -56,7 +56,7 @@ IsTurned None new line body = ⊥
 abbrev pub is_misuse : Option HandleContents → List ℕ → List ℕ → Bool
 is_misuse held line body = is_none held || not (is_call line body)
 
--- profile: a call that tells a file: the file at 0, the first fault at 1, and at 2 nothing, for want of memory
+-- profile: a call that tells a file: the file at 0, the first fault at 1, and at 2 nothing, since memory ran out
 pub record Delivered (status : ℕ) (given : Result (List ℕ) Fault) (old new : List ℕ) (before told : ℕ) : Type 0 where
   pub done : status ≡ 0 → (file : List ℕ) × (given ≡ Ok file) × Told file old new told
   pub refused : status ≡ 1 → RefusesWithText given old new told
@@ -70,7 +70,7 @@ pub record DeliveredFont (status : ℕ) (given : Result (List ℕ) FontFault) (o
   pub memory : status ≡ 2 → NothingTold old new before told
   pub known : is_status_among (0 ∷ 1 ∷ 2 ∷ []) status ≡ true
 
--- profile: a call that judges: nothing is told at 0, the first fault at 1, and nothing at 2, for want of memory
+-- profile: a call that judges: nothing is told at 0, the first fault at 1, and nothing at 2, since memory ran out
 pub record Judged (status : ℕ) (given : Result (Unit {0}) Fault) (old new : List ℕ) (before told : ℕ) : Type 0 where
   pub passed : status ≡ 0 → given ≡ Ok tt
   pub done : status ≡ 0 → NothingTold old new before told
@@ -78,7 +78,7 @@ pub record Judged (status : ℕ) (given : Result (Unit {0}) Fault) (old new : Li
   pub memory : status ≡ 2 → NothingTold old new before told
   pub known : is_status_among (0 ∷ 1 ∷ 2 ∷ []) status ≡ true
 
--- profile: a call that tells the lines of all faults: there are none at 0, some at 1, and at 2 nothing is told, for want of memory
+-- profile: a call that tells the lines of all faults: there are none at 0, some at 1, and at 2 nothing is told, since memory ran out
 pub record Listed (status : ℕ) (lines old new : List ℕ) (before told : ℕ) : Type 0 where
   pub none : status ≡ 0 → lines ≡ []
   pub some : status ≡ 1 → (length lines == 0) ≡ false

@@ -60,7 +60,7 @@ broken_answered s command rule is = rw is (refl, refl)
 stepped : (E : Type 0) (old new : SessionState) (command : SessionCommand) (answer : Answer) → IsCallAnswered {E = E} old new command (Ok answer) → IsAnswerTo old new command answer
 stepped E old new command answer h = record { mark = false; is = h.0; next = h.1 }
 
--- want of memory is a step that is marked
+-- out of memory is a step that is marked
 wanted : (old new : SessionState) (command : SessionCommand) → may_want_memory old command ≡ true → new ≡ after_want old command → IsAnswerTo old new command OutOfMemory
 wanted old new command h n = record { mark = true; is = rw h refl; next = rw h n }
 
@@ -79,7 +79,7 @@ pub answered : (E : Type 0) (old new : SessionState) (command asked : SessionCom
     → IsAnswerTo old new asked answer
 answered E old new command asked answer h is = subst (λ (q : SessionCommand). IsAnswerTo old new q answer) is (stepped E old new command answer h)
 
--- the step of one that met want of memory
+-- the step of one that ran out of memory
 pub unanswered : {E : Type 0} (old new : SessionState) (command asked : SessionCommand) (e : E) → IsCallAnswered old new command (Err e) → command ≡ asked → IsAnswerTo old new asked OutOfMemory
 unanswered old new command asked e h is = subst (λ (q : SessionCommand). IsAnswerTo old new q OutOfMemory) is (wanted old new command h.0 h.1)
 

@@ -32,7 +32,7 @@ pub record Brings (old new : SessionState) (input text : List ℕ) : Type 0 wher
 abbrev pub Turns : Spoken → Spoken → List ℕ → List ℕ → Type 0
 Turns old new line body = (is_call line body ≡ true) × Brings old.state new.state (framed line body) new.answer
 
--- profile, answers: a call that performs a command; texts that aren't one command's, and want of memory for a body, leave
+-- profile, answers: a call that performs a command; texts that aren't one command's, and out of memory for a body, leave
 -- all as it was
 abbrev pub Speaks : {T : Type 0} → Spoken → Spoken → List ℕ → List ℕ → Result T Unperformed → Type 0
 Speaks old new line body (Ok done) = Turns old new line body

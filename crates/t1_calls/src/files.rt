@@ -10,7 +10,7 @@ use t1_code::Counted;
 use t1_frac::Refusal;
 use t1_session::{ServeError, assemble_blocks, assemble_pfa, assemble_source, measure_source};
 
-/// The refusal of a call that wrote to memory: its fault, or want of memory, for which alone a
+/// The refusal of a call that wrote to memory: its fault, or out of memory, for which alone a
 /// vector takes no bytes.
 fn refusal(error: ServeError) -> Refusal
     ensures { result ≡ refused_by error }

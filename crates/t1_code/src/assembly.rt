@@ -14,7 +14,7 @@ use crate::words::{is_too_long, next_command};
 use std::alloc::Global;
 use t1_frac::{Code, Refusal, Words};
 
-/// Adds the charstring of a text's words. At a fault or want of memory some of it stands after the
+/// Adds the charstring of a text's words. At a fault or out of memory some of it stands after the
 /// code that was there.
 #[tactic(auto, using(crate::proofs::Adding::coded_step, crate::proofs::Adding::front_grows))]
 fn push_words(code: &mut Vec<u8>, text: &[u8]) -> Result<(), Refusal>

@@ -128,7 +128,7 @@ commands_at_end : input_commands true (codes "print kern" ++ 13 ∷ codes "print
 unfolding takes_body line_command other_command whole_print
 commands_at_end = refl
 
--- a machine that takes every command, and the answers to two of them, of which the first met want of memory
+-- a machine that takes every command, and the answers to two of them, of which the first ran out of memory
 abbrev agreeing : Machine (Unit {0})
 agreeing = record { perform = λ s command. record { answer = Accepted; next = tt }; may_want_memory = λ s command. true; after_want = λ s command. tt }
 

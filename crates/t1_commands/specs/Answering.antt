@@ -14,7 +14,7 @@ abbrev pub Says : {E : Type 0} → Answer → Result Answer E → Type 0
 Says wanted (Ok answer) = answer ≡ wanted
 Says wanted (Err e) = ⊥
 
--- word, answers: a call gave no answer, for want of memory
+-- word, answers: a call gave no answer, since memory ran out
 abbrev pub WantsMemory : {E : Type 0} → Result Answer E → Type 0
 WantsMemory (Ok answer) = ⊥
 WantsMemory (Err e) = Unit {0}

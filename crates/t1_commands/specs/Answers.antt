@@ -11,13 +11,13 @@ pub record Performed (S : Type 0) : Type 0 where
   pub answer : Answer
   pub next : S
 
--- profile, answers: how commands are performed, which of them may meet want of memory, and what those leave that did
+-- profile, answers: how commands are performed, which of them may run out of memory, and what those leave that did
 pub record Machine (S : Type 0) : Type 0 where
   pub perform : S → SessionCommand → Performed S
   pub may_want_memory : S → SessionCommand → Bool
   pub after_want : S → SessionCommand → S
 
--- profile, answers: the answer to a command, marked or not as one that met want of memory
+-- profile, answers: the answer to a command, marked or not as one that ran out of memory
 abbrev pub answer_to : {S : Type 0} → Machine S → S → SessionCommand → Bool → Performed S
 answer_to m s r mark =
     if mark && m.may_want_memory s r then record { answer = OutOfMemory; next = m.after_want s r } else m.perform s r

@@ -30,7 +30,7 @@ pub enum Answer {
     Data(Bytes),
 }
 
-/// What is answered to a command that was performed, or refused; want of memory is passed on.
+/// What is answered to a command that was performed, or refused; out of memory is passed on.
 pub fn answer_of(performed: Result<(), Cause>) -> Result<Answer, AllocError>
     ensures { Answers performed result }
 {

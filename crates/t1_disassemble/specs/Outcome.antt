@@ -15,7 +15,7 @@ abbrev pub font_reported_at : {X : Type 0} → FontPlace → Result X FontCode �
 font_reported_at place (Ok x) = Ok x
 font_reported_at place (Err code) = Err (font_fault_at place code)
 
--- profile, faults: a refusal is the fault that the definition gives, or want of memory
+-- profile, faults: a refusal is the fault that the definition gives, or out of memory
 abbrev pub RefusesFont : {Y : Type 0} → FontRefusal → Result Y FontFault → Type 0
 RefusesFont refusals.Memory given = Unit {0}
 RefusesFont (refusals.Fault fault) given = given ≡ Err fault

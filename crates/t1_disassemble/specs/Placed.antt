@@ -10,6 +10,6 @@ abbrev pub font_refusal_at : FontPlace → FontRefusal → FontRefusal
 font_refusal_at place (refusals.Fault fault) = refusals.Fault (font_fault_at place fault.code)
 font_refusal_at place refusals.Memory = refusals.Memory
 
--- word: the same, or want of memory for the place
+-- word: the same, or out of memory for the place
 abbrev pub IsPlaced : FontPlace → FontRefusal → FontRefusal → Type 0
 IsPlaced place refused result = (result ≡ refusals.Memory) ⊎ (result ≡ font_refusal_at place refused)

@@ -49,7 +49,7 @@ pub struct FontFault {
     pub place: FontPlace,
 }
 
-/// Why a call gives no value: a fault of the file, or want of memory.
+/// Why a call gives no value: a fault of the file, or out of memory.
 #[derive(Debug, Drop, Error)]
 pub enum FontRefusal {
     #[error("refused")]

@@ -21,7 +21,7 @@ abbrev pub ◌>>=◌ : {E A B : Type 0} → Result A E → (A → Result B E) �
 (Ok x) >>= f = f x
 (Err e) >>= f = Err e
 
--- profile, faults: a refusal is the fault that the definition gives, or want of memory
+-- profile, faults: a refusal is the fault that the definition gives, or out of memory
 abbrev pub Refuses : {Y : Type 0} → Refusal → Result Y Fault → Type 0
 Refuses refusals.Memory given = Unit {0}
 Refuses (refusals.Fault fault) given = given ≡ Err fault

@@ -94,7 +94,7 @@ pub struct Fault {
     pub place: Place,
 }
 
-/// Why a call gives no value: a fault of what it was given, or want of memory.
+/// Why a call gives no value: a fault of what it was given, or out of memory.
 #[derive(Debug, Drop, Error)]
 pub enum Refusal {
     #[error("refused")]

@@ -8,7 +8,6 @@ use Rattle.t1_parts.specs.declared.item.Item.TheVariants.{Plain, Section, Subr, 
 use Rattle.t1_parts.specs.Entries.{is_glyph}
 use Rattle.t1_parts.specs.SourceParts.{SourceParts}
 use Rattle.t1_run.specs.Run.{Glyph as GlyphKey}
-use Rattle.t1_font.specs.Bodies.{bodies}
 use Rattle.t1_font.specs.Glyphs.{glyph_names}
 use Rattle.t1_cache.specs.Bodies.{glyph_body}
 use Rattle.t1_cache.specs.declared.records.Records.{Records}

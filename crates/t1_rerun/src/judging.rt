@@ -49,7 +49,7 @@ fn check_in_order<O: GlyphOrder>(
 }
 
 /// The first fault in the order of the font, where one of the glyphs that were found has a fault;
-/// or want of memory.
+/// or out of memory.
 fn first_in_order<O: GlyphOrder>(
     alloc: Global,
     runs: &Newest,

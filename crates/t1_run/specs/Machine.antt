@@ -43,7 +43,7 @@ asked_step controls.Back s = Back s
 asked_step controls.End s = End s
 asked_step (controls.Compose a) s = Compose a s
 
--- word: a step is refused by its fault, or for want of memory
+-- word: a step is refused by its fault, or since memory ran out
 abbrev pub RefusesStep : Halt → Step → Type 0
 RefusesStep halts.Memory step = Unit {0}
 RefusesStep (halts.Fault code) step = step ≡ Fault code

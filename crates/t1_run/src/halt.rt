@@ -3,7 +3,7 @@
 use std::alloc::AllocError;
 use t1_frac::{Code, Refusal};
 
-/// Why a step isn't made: its fault, which a run reports at no place, or want of memory. A step's
+/// Why a step isn't made: its fault, which a run reports at no place, or out of memory. A step's
 /// answer is looked at after each word, so it is kept small.
 #[derive(Clone, Copy)]
 pub enum Halt {

@@ -17,7 +17,7 @@ use t1_session::Session;
 use t1_source::{Cause, Edit, read_source};
 use t1_text::first_line;
 
-/// The line that says that an edit met want of memory.
+/// The line that says that an edit ran out of memory.
 const WANTED: &[u8] = b"wanted memory\n";
 
 /// The prints of a session.
@@ -70,7 +70,7 @@ fn put_print(session: &Session, print: Print, out: &mut Counted<Stdout>) -> Resu
     Ok(())
 }
 
-/// Writes that an edit met want of memory, and all prints.
+/// Writes that an edit ran out of memory, and all prints.
 fn put_wanted(session: &Session, out: &mut Counted<Stdout>) -> Result<(), Stop> {
     out.put_all(WANTED)?;
     for print in &PRINTS {

@@ -68,7 +68,7 @@ Sends contents old new text (Err errors.Memory) = ⊥
 Sends contents old new text (Err errors.Read) = ⊥
 Sends contents old new text (Err (errors.Load fault)) = ⊥
 
--- word: a command was performed, and its answer went out, or a failed write cut it short; or it met want of memory,
+-- word: a command was performed, and its answer went out, or a failed write cut it short; or it ran out of memory,
 -- and nothing was written
 abbrev pub IsPerformed : {W T : Type 0} → (W → Option (List ℕ)) → SessionState → SessionState → Tally W → Tally W → SessionCommand → Result T OutError → Type 0
 IsPerformed contents old new before after command (Ok done) =
@@ -106,7 +106,7 @@ pub record LineStops {W : Type 0} (contents : W → Option (List ℕ)) (old : Co
   pub goes : LineGoes old reached text
   pub written : WritesFront contents before after text
 
--- word: the end of a line that isn't one of a body is answered; it doesn't end a session for want of memory
+-- word: the end of a line that isn't one of a body is answered; it doesn't end a session when memory runs out
 abbrev pub EndsCommandLine : {W T : Type 0} → (W → Option (List ℕ)) → Conversation → Conversation → Tally W → Tally W → Result T ServeError → Type 0
 EndsCommandLine contents old new before after (Ok done) = LineAnswered contents old new before after
 EndsCommandLine contents old new before after (Err errors.Write) = LineStops contents old before after
@@ -170,7 +170,7 @@ Feeds contents old new before after piece (Err errors.Write) = StopsForWrite con
 Feeds contents old new before after piece (Err errors.Read) = ⊥
 Feeds contents old new before after piece (Err (errors.Load fault)) = ⊥
 
--- word: the end of the input is answered; it doesn't end a session for want of memory
+-- word: the end of the input is answered; it doesn't end a session when memory runs out
 pub record AnswersTheEnd {W T : Type 0} (contents : W → Option (List ℕ)) (old : Conversation) (before after : Tally W) (result : Result T ServeError) : Type 0 where
   pub marks : List Bool
   pub sends : Sends contents before after (answers machine old.state (commands_from old [] true) marks) result

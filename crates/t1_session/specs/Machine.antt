@@ -171,7 +171,7 @@ noting_refusals s command p = p
 unfoldable pub perform : SessionState → SessionCommand → Performed SessionState
 perform s command = noting_refusals s command (outcome s command)
 
--- profile, answers: which commands may meet want of memory: edits, prints and queries, a `begin` outside a batch, a `commit` in one
+-- profile, answers: which commands may run out of memory: edits, prints and queries, a `begin` outside a batch, a `commit` in one
 abbrev pub may_want_memory : SessionState → SessionCommand → Bool
 may_want_memory s (commands.Edit edit) = true
 may_want_memory s (commands.Print print) = true
@@ -181,7 +181,7 @@ may_want_memory s commands.Commit = is_some s.batch
 may_want_memory s commands.Abort = false
 may_want_memory s (commands.Broken rule) = false
 
--- profile, answers: want of memory leaves the state as it was, but for the batch of a `commit`, which is closed
+-- profile, answers: out of memory leaves the state as it was, but for the batch of a `commit`, which is closed
 abbrev pub after_want : SessionState → SessionCommand → SessionState
 after_want s commands.Commit = without_batch s
 after_want s _ = s

@@ -86,7 +86,7 @@ module _ {R W : Type 0} (remaining : R → Option (List ℕ)) (contents : W → 
   Converses state old new (Err errors.Write) = StopsAtWrite state old new
   Converses state old new (Err (errors.Load fault)) = ⊥
 
-  -- profile: want of memory before the session was open: nothing was read or written
+  -- profile: out of memory before the session was open: nothing was read or written
   abbrev pub NeverOpens : {T : Type 0} → Streams R W → Streams R W → Result T ServeError → Type 0
   NeverOpens old new (Ok done) = ⊥
   NeverOpens old new (Err errors.Read) = ⊥
@@ -94,7 +94,7 @@ module _ {R W : Type 0} (remaining : R → Option (List ℕ)) (contents : W → 
   NeverOpens old new (Err errors.Write) = ⊥
   NeverOpens old new (Err (errors.Load fault)) = ⊥
 
-  -- profile: the refusal of what no session can be opened on: its fault, or want of memory
+  -- profile: the refusal of what no session can be opened on: its fault, or out of memory
   abbrev pub RefusesToOpen : {T : Type 0} → Fault → Result T ServeError → Type 0
   RefusesToOpen fault (Ok done) = ⊥
   RefusesToOpen fault (Err errors.Read) = ⊥

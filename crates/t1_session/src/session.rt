@@ -229,7 +229,7 @@ impl<'a> Session<'a> {
 
     /// Closes the batch, and takes its source and its pairs unless the source has a fault; E12
     /// where none is open. Each glyph that some edit of the batch makes stale is run once. A
-    /// refusal, also for want of memory, leaves the session as before the batch; the source of a
+    /// refusal, also since memory ran out, leaves the session as before the batch; the source of a
     /// batch with a fault is kept for `show_refusal`.
     pub fn commit(&mut self) -> Result<(), Cause>
         ensures takes { Takes self.old.state commands.Commit result self.new.state }

@@ -4,7 +4,7 @@ use Rattle.t1_source.specs.declared.edit.Cause.{Cause}
 use Rattle.t1_source.specs.declared.edit.Rule.{Rule}
 use Rattle.t1_source.specs.declared.edit.Cause.TheVariants as causes
 
--- word, edits: a cause is the rule that the definition gives, or want of memory
+-- word, edits: a cause is the rule that the definition gives, or out of memory
 abbrev pub ReportsRule : {Y : Type 0} → Cause → Result Y Rule → Type 0
 ReportsRule causes.Memory given = Unit {0}
 ReportsRule (causes.Rule rule) given = given ≡ Err rule

@@ -111,7 +111,7 @@ pub enum Rule {
 }
 
 /// Why an edit is refused: the first rule that it breaks, a fault of the font that it would make,
-/// or want of memory.
+/// or out of memory.
 #[derive(Debug, Drop, Error)]
 pub enum Cause {
     #[error("a rule is broken")]

@@ -12,7 +12,7 @@ use Rattle.t1_session.specs.declared.error.ServeError.TheVariants as errors
 abbrev pub FormIs : Bool → Option (List ℕ) → Result OutputForm Stop → Type 0
 FormIs pfa block result = result ≡ form pfa block
 
--- word: why there is no source: the fault that the definition gives, or want of memory
+-- word: why there is no source: the fault that the definition gives, or out of memory
 abbrev pub LacksSource : FileError → Result (List ℕ) FontFault → Type 0
 LacksSource (Font fault) given = given ≡ Err fault
 LacksSource (Served errors.Memory) given = Unit {0}

@@ -9,7 +9,7 @@ use Rattle.t1_fault_texts.specs.FontFaults.{font_fault_text}
 use Rattle.t1edit.specs.declared.file_error.FileError.{FileError}
 use Rattle.t1edit.specs.declared.file_error.FileError.TheVariants.{Served, Unread, Font}
 
--- profile: the fault of a font's file, or want of memory
+-- profile: the fault of a font's file, or out of memory
 abbrev pub told_of_font : FontRefusal → FileError
 told_of_font (refusals.Fault fault) = Font fault
 told_of_font refusals.Memory = Served Memory
@@ -21,7 +21,7 @@ error_text Read = codes "read failed"
 error_text Write = codes "write failed"
 error_text Memory = codes "out of memory"
 
--- profile: 1 for a source or pairs that are refused, 3 where reading or writing failed, 4 for want of memory
+-- profile: 1 for a source or pairs that are refused, 3 where reading or writing failed, 4 since memory ran out
 abbrev pub status_of : ServeError → ℕ
 status_of (Load fault) = 1
 status_of Read = 3

@@ -12,7 +12,7 @@ use Rattle.t1edit.specs.declared.kind.Kind.{Kind}
 use Rattle.t1edit.specs.declared.unread.Unread.{Unread}
 
 -- profile: a text went out, and it is said whether it finds something; a beginning of it, and then a write failed; or
--- nothing, for want of memory
+-- nothing, since memory ran out
 abbrev pub PutsReport : {W : Type 0} → (W → Option (List ℕ)) → List ℕ → Bool → Tally W → Tally W → Result Bool ServeError → Type 0
 PutsReport contents text finds old new (Ok found) = WritesAll contents old new text × (found ≡ finds)
 PutsReport contents text finds old new (Err Write) = WritesFront contents old new text

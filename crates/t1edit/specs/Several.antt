@@ -30,7 +30,7 @@ abbrev pub status_of_answer : Result (Unit {0}) FileError → ℕ
 status_of_answer (Ok done) = 0
 status_of_answer (Err error) = status_of_file error
 
--- profile: the worst status of all: 4 for want of memory, else 3 for a file that can't be read, else 1 for a fault
+-- profile: the worst status of all: 4 since memory ran out, else 3 for a file that can't be read, else 1 for a fault
 abbrev pub worst_status : List (Result (Unit {0}) FileError) → ℕ
 worst_status [] = 0
 worst_status (answer ∷ answers) = max (status_of_answer answer) (worst_status answers)

@@ -26,7 +26,7 @@ AnswersAs does (Err (Served error)) = does (Err error)
 AnswersAs does (Err (Unread words)) = ⊥
 AnswersAs does (Err (Font fault)) = ⊥
 
--- profile: a call tells this fault of a font, or want of memory
+-- profile: a call tells this fault of a font, or out of memory
 abbrev pub TellsFontFault : {T : Type 0} → FontFault → Result T FileError → Type 0
 TellsFontFault fault (Ok done) = ⊥
 TellsFontFault fault (Err (Font told)) = told ≡ fault

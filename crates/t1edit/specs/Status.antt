@@ -9,7 +9,7 @@ use Rattle.t1edit.specs.declared.status.Misuse.TheVariants.{InputTwice, InputOfS
 use Rattle.t1edit.specs.declared.status.Stop.{Stop}
 use Rattle.t1edit.specs.declared.status.Stop.TheVariants.{Rejected, Misused, Failed, Told}
 
--- profile: the fault of a font's file, or want of memory
+-- profile: the fault of a font's file, or out of memory
 abbrev pub stop_of_font : FontRefusal → Stop
 stop_of_font refused = Failed (told_of_font refused)
 

@@ -20,7 +20,7 @@ served (Err error) = Err (Served error)
 abbrev pub stop_of_serving : ServeError → Stop
 stop_of_serving error = Failed (Served error)
 
--- word: an output that can't be opened is a failed write, or want of memory
+-- word: an output that can't be opened is a failed write, or out of memory
 abbrev pub stop_of_unopened : Unopened → Stop
 stop_of_unopened unopened.Refused = stop_of_serving Write
 stop_of_unopened (unopened.Memory want) = stop_of_serving Memory

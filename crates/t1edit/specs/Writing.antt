@@ -14,12 +14,12 @@ use Rattle.t1edit.specs.declared.status.Stop.{Stop}
 use Rattle.t1edit.specs.declared.unopened.Unopened.{Unopened}
 use Rattle.t1edit.specs.declared.unopened.Unopened.TheVariants as unopened
 
--- word: an output isn't open for want of memory
+-- word: an output isn't open since memory ran out
 abbrev pub OutputWantsMemory : Unopened → Type 0
 OutputWantsMemory (unopened.Memory want) = Unit {0}
 OutputWantsMemory unopened.Refused = ⊥
 
--- word: want of memory is told of an error of the system that says so, and of no other
+-- word: out of memory is told of an error of the system that says so, and of no other
 abbrev pub IsToldOf : Error → Unopened → Type 0
 IsToldOf error (unopened.Memory want) = error_kind error ≡ OutOfMemory
 IsToldOf error unopened.Refused = error_kind error ≢ OutOfMemory

@@ -17,7 +17,7 @@ use t1_session::ServeError;
 /// Why a call over the bytes of a file stops before its end.
 #[derive(Debug, Drop)]
 pub enum FileError {
-    /// A fault of the source or the pairs, a read or a write that failed, or want of memory.
+    /// A fault of the source or the pairs, a read or a write that failed, or out of memory.
     Served(ServeError),
     /// A file can't be read, for this reason, where reasons are told.
     Unread(Bytes),

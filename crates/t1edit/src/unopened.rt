@@ -5,7 +5,7 @@ use std::alloc::AllocError;
 use std::io::{self, ErrorKind};
 
 /// That a call wanted memory. It is made of that call's error alone, so that no other failure is
-/// told as want of memory.
+/// told as out of memory.
 #[derive(Debug, Drop)]
 pub struct WantOfMemory {
     seal: (),
