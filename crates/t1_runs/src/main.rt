@@ -8,17 +8,22 @@
 //!
 //! `t1_runs serve SOURCE < COMMANDS` serves a session, and writes a line wherever it is flushed.
 //!
+//! `t1_runs without SOURCE NAME` writes the AFM file of the source from which the glyph of the name
+//! is removed.
+//!
 //! What is proved: `apply`, `begin`, `commit` and `abort` are the session's own commands (`Takes`),
 //! and so is `try_apply`, with the edit that comes back (`TakesOrReturns`). The rest has no
 //! contracts.
 #![tactic(auto)]
 
 mod calls;
+mod example;
 mod performing;
 mod serving;
 mod stop;
 
-use performing::perform_script;
+use example::print_without;
+use performing::{opened, perform_script};
 use serving::serve_source;
 use std::env;
 use std::fs::File;
@@ -54,6 +59,14 @@ fn serve(rt: &HostRuntime, path: &str) -> Result<(), Stop> {
     serve_source(rt, &source)
 }
 
+/// Writes the metrics of the source at a path without the glyph of a name.
+fn write_without(rt: &HostRuntime, path: &str, name: &str) -> Result<(), Stop> {
+    let text = read_file(rt, path)?;
+    let mut session = opened(rt.alloc(), &text)?;
+    let mut out = Counted::new(rt.stdout());
+    print_without(rt.alloc(), &mut session, name.as_bytes(), &mut out)
+}
+
 fn run(rt: &HostRuntime) -> Result<(), Stop> {
     let args = match env::args(rt) {
         Ok(args) => args,
@@ -64,6 +77,9 @@ fn run(rt: &HostRuntime) -> Result<(), Stop> {
     match words.as_slice() {
         [_, path] => perform(rt, path.as_str()),
         [_, verb, path] if verb.as_str() == "serve" => serve(rt, path.as_str()),
+        [_, verb, path, name] if verb.as_str() == "without" => {
+            write_without(rt, path.as_str(), name.as_str())
+        }
         _ => Err(Stop::Usage),
     }
 }

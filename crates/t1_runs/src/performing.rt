@@ -167,7 +167,7 @@ fn perform_line(
 }
 
 /// The session of the bytes of a source, without pairs.
-fn opened(alloc: Global, source: &[u8]) -> Result<Session<'_>, Refusal> {
+pub fn opened(alloc: Global, source: &[u8]) -> Result<Session<'_>, Refusal> {
     let source = read_source(alloc, source)?;
     let pairs = read_pairs(alloc, b"")?;
     open(alloc, source, pairs)

@@ -4,6 +4,7 @@ use std::alloc::{AllocError, AllocFailed};
 use std::io::{self, ErrorKind, Stderr, Write};
 use t1_code::OutError;
 use t1_frac::Refusal;
+use t1_source::Cause;
 
 /// Why the program ends before its work is done.
 #[derive(Clone, Copy)]
@@ -14,6 +15,8 @@ pub enum Stop {
     Failed,
     /// The source has a fault.
     Fault,
+    /// An edit breaks a rule.
+    Rule,
     /// A line of the script is no command that is performed.
     NoStep,
     Memory,
@@ -22,9 +25,10 @@ pub enum Stop {
 impl Stop {
     fn line(self) -> &'static [u8] {
         match self {
-            Stop::Usage => b"usage: t1_runs [serve] SOURCE < SCRIPT\n",
+            Stop::Usage => b"usage: t1_runs [serve|without] SOURCE [NAME] < SCRIPT\n",
             Stop::Failed => b"t1_runs: a read or a write failed\n",
             Stop::Fault => b"t1_runs: the source has a fault\n",
+            Stop::Rule => b"t1_runs: the edit breaks a rule\n",
             Stop::NoStep => b"t1_runs: a line of the script is no step\n",
             Stop::Memory => b"t1_runs: out of memory\n",
         }
@@ -72,6 +76,16 @@ impl From<Refusal> for Stop {
         match refusal {
             Refusal::Fault(_) => Stop::Fault,
             Refusal::Memory => Stop::Memory,
+        }
+    }
+}
+
+impl From<Cause> for Stop {
+    fn from(cause: Cause) -> Stop {
+        match cause {
+            Cause::Rule(_) => Stop::Rule,
+            Cause::Fault(_) => Stop::Fault,
+            Cause::Memory => Stop::Memory,
         }
     }
 }

@@ -8,6 +8,17 @@
 //! They take types of other crates: sources and edits of `t1_source`, pairs of `t1_pairs`, readers
 //! and writers as `Counted` of `t1_code`, and faults of `t1_frac`.
 //!
+//! The metrics of a source from which a glyph is removed:
+//!
+//! ```
+//! let source = read_source(alloc, text)?;
+//! let pairs = read_pairs(alloc, b"")?;
+//! let mut session = Session::open(alloc, source, pairs)?;
+//! let name = Bytes::copied(alloc, name)?;
+//! session.apply(Edit::RemoveGlyph(name))?;
+//! session.print_afm(out)?;
+//! ```
+//!
 //! What is proved, beside what the comment at each call says:
 //!
 //! - `assemble_source`, `assemble_blocks`, `assemble_pfa`, `measure_source`: `Delivers` of the file
