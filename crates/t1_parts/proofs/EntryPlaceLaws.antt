@@ -12,12 +12,11 @@ use Rattle.t1_parts.specs.declared.item.Item.{Item}
 use Rattle.t1_parts.specs.declared.item.Item.TheVariants.{Plain}
 use Rattle.t1_parts.specs.declared.stretch.Stretch.{Stretch}
 use Rattle.t1_parts.specs.declared.stretch.Stretch.TheVariants.{One, Lines}
-use Rattle.t1_parts.specs.EntryKeys.{is_entry_of, is_of_kind, IsEntryAt, IsThrough}
+use Rattle.t1_parts.specs.EntryKeys.{is_entry_of, is_of_kind, IsThrough}
 use Rattle.t1_parts.specs.Items.{items_in, stretch_items, line_items}
-use Rattle.t1_parts.specs.Stretches.{AreSingle, IsPlaceOfItem}
+use Rattle.t1_parts.specs.Stretches.{IsPlaceOfItem}
 use Rattle.t1_parts.proofs.PartLaws.{no_position, cut_position}
 use Rattle.t1_parts.proofs.PlaceLaws.{any_below}
-use Rattle.t1_parts.proofs.SingleLaws.{single_length, single_taken, single_at}
 use Rattle.t1_parts.proofs.StretchLaws.{in_two, from_index, place_item}
 
 -- ---- no plain line is an entry or a section line
@@ -106,19 +105,6 @@ found_any test xs = elim (cases_Bool (nat_lt (position_or_len test xs) (length x
   | inl there ↦ (let any = any_below test xs in rw there (sym there ∙ any))
   | inr nowhere ↦ (let any = any_below test xs in rw nowhere (sym nowhere ∙ any))
 ]
-
--- ---- stretches of one item each
-
--- the item of a place is that of the stretch there
-pub single_entry : (key : EntryKey) (at : ℕ) (ss : List Stretch) (d : Stretch) (item : Item) → AreSingle ss → at < length ss → slice_index_or ss at d ≡ One item → is_entry_of key item ≡ true → IsEntryAt key (items_in ss) at
-single_entry key at ss d item single here is on =
-    let size = single_length ss single in
-    let before = single_taken at ss single (omega (arith, here)) in
-    let one = single_at at ss d single here in (
-      omega (arith, size, here),
-      λ e.
-          ap (is_entry_of key) (place_item at at 0 ss d e here (omega (arith, before)) (omega (arith, one)) ∙ ap (λ s. slice_index_or (stretch_items s) 0 e) is) ∙ on,
-    )
 
 -- ---- from the end
 

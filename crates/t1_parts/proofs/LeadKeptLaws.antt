@@ -1,6 +1,5 @@
 -- The lenIV of items after an edit that changes nothing which says lenIV.
-use Rattle.std.proofs.Common.{◌≡◌, ℕ, zero, suc, Bool, true, false, Option, Some, None, is_some, List, [], ◌∷◌, ◌++◌, filter_map, map, refl, sym, ◌∙◌, ap}
-use Rattle.std.specs.Option.{MatchOption}
+use Rattle.std.proofs.Common.{◌≡◌, ℕ, zero, suc, false, Option, Some, None, is_some, List, [], ◌∷◌, ◌++◌, filter_map, map, refl, sym, ◌∙◌, ap}
 use Rattle.std.specs.List.{find, insert, remove, slice_index_or, slice_set}
 use Rattle.std.proofs.lemmas.List.{append-nil}
 use Rattle.std.proofs.lemmas.List.Elements.{filter_map-append}
@@ -50,10 +49,9 @@ said_nothing (x ∷ xs) e = by (said_lead x) refl e (said_nothing xs) where
   by None is h more = let rest : find says_lead xs ≡ None = rw is at h in rw is (more rest)
   by (Some t) is h more = let here : Some x ≡ None = rw is at h in absurd (cc)
 
--- the search for one that says it found none
-pub none_said : {X : Type 0} (found : Option X) (is_said : Bool) (xs : List Item) (Is : X → Type 0) → MatchOption found (find says_lead xs ≡ None) Is → is_said ≡ is_some found → is_said ≡ false → find says_lead xs ≡ None
-none_said None is_said xs Is none e h = none
-none_said (Some x) is_said xs Is here e h = let both : true ≡ false = sym e ∙ h in absurd (cc)
+-- the search in one that says nothing finds none
+pub one_silent : (i : Item) → says_lead i ≡ false → find says_lead (i ∷ []) ≡ None
+one_silent i off = rw off refl
 
 said_raised : (subrs glyphs : ℕ) (xs : List Item) → said (map (raised_item subrs glyphs) xs) ≡ said xs
 said_raised subrs glyphs [] = refl

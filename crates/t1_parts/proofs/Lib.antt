@@ -27,6 +27,7 @@ pub mod SearchLaws
 pub mod SectionEndLaws
 pub mod SectionLaws
 pub mod SingleLaws
+pub mod StartLaws
 pub mod StretchLaws
 pub mod TailLaws
 pub mod TextPlaceLaws

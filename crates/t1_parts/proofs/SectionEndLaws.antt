@@ -108,6 +108,10 @@ pushed_none n xs ys none h = let size = length-append xs ys in (omega (arith, h.
     more (suc n) [] within off = absurd (omega (arith, within))
     more (suc n) (z ∷ zs) within off = more n zs (omega (arith, within)) off
 
+-- one item more, which is no section line
+pub pushed_other : (n : ℕ) (xs : List Item) (i : Item) → is_section i ≡ false → AreSectionsBefore n xs → AreSectionsBefore n (xs ++ i ∷ [])
+pushed_other n xs i off h = pushed_none n xs (i ∷ []) (both is_section i [] off refl) h
+
 pub inserted_section : (n at most : ℕ) (xs : List Item) (i : Item) → most ≡ max n at → at ≤ length xs → AreSectionsBefore n xs → AreSectionsBefore (most + 1) (insert xs at i)
 inserted_section n at most xs i e within h =
     let size = length-insert xs at i within in

@@ -206,29 +206,18 @@ first_put i ss t d item h size e =
       alone (x ∷ []) ys e = refl
       alone (x ∷ y ∷ xs) ys e = absurd (omega (arith, e))
 
--- after one put in
-pub taken_past : (i : ℕ) (ss : List Stretch) (t : Stretch) → i ≤ length ss → items_in (take (i + 1) (insert ss i t)) ≡ items_in (take i ss) ++ stretch_items t
-taken_past zero ss t h = append-nil (stretch_items t)
-taken_past (suc i) [] t h = absurd (omega (arith, h))
-taken_past (suc i) (s ∷ ss) t h =
-    ap (λ k. items_in (take k (insert (s ∷ ss) (suc i) t))) (next i) ∙ ap (λ u. stretch_items s ++ u) (taken_past i ss t (omega (arith, h)))
-    ∙ sym (append_assoc (stretch_items s) (items_in (take i ss)) (stretch_items t))
-
-pub dropped_past : (i : ℕ) (ss : List Stretch) (t : Stretch) → i ≤ length ss → items_in (drop (i + 1) (insert ss i t)) ≡ items_in (drop i ss)
-dropped_past zero ss t h = refl
-dropped_past (suc i) [] t h = absurd (omega (arith, h))
-dropped_past (suc i) (s ∷ ss) t h = ap (λ k. items_in (drop k (insert (s ∷ ss) (suc i) t))) (next i) ∙ dropped_past i ss t (omega (arith, h))
-
-pub put_past : (i : ℕ) (ss now last : List Stretch) (t : Stretch) (item : Item) → i ≤ length ss → stretch_items t ≡ item ∷ [] → now ≡ insert ss i t
-    → items_in last ≡ items_in (take (i + 1) now) ++ drop 1 (items_in (drop (i + 1) now))
-    → items_in last ≡ items_in (take i ss) ++ (item ∷ drop 1 (items_in (drop i ss)))
-put_past i ss now last t item h e made done =
-    done
-    ∙ ap (λ u. items_in (take (i + 1) u) ++ drop 1 (items_in (drop (i + 1) u))) made
-    ∙ ap (λ u. u ++ drop 1 (items_in (drop (i + 1) (insert ss i t)))) (taken_past i ss t h)
-    ∙ ap (λ u. (items_in (take i ss) ++ stretch_items t) ++ drop 1 u) (dropped_past i ss t h)
-    ∙ ap (λ u. (items_in (take i ss) ++ u) ++ drop 1 (items_in (drop i ss))) e
-    ∙ append_assoc (items_in (take i ss)) (item ∷ []) (drop 1 (items_in (drop i ss)))
+-- it has others
+pub first_split : (i : ℕ) (ss : List Stretch) (t rest d : Stretch) (item : Item) → i < length ss → 0 < length (stretch_items (slice_index_or ss i d)) → stretch_items t ≡ item ∷ []
+    → stretch_items rest ≡ drop 1 (stretch_items (slice_index_or ss i d)) → items_in (cut_in_two i ss t rest) ≡ items_in (take i ss) ++ (item ∷ drop 1 (items_in (drop i ss)))
+first_split i [] t rest d item h some e f = absurd (omega (arith, h))
+first_split zero (s ∷ ss) t rest d item h some e f =
+    ap (λ u. u ++ (stretch_items rest ++ items_in ss)) e
+    ∙ ap (λ u. item ∷ (u ++ items_in ss)) f
+    ∙ ap (λ u. item ∷ u) (sym (drop_append 1 (stretch_items s) (items_in ss) (omega (arith, some))))
+first_split (suc i) (s ∷ ss) t rest d item h some e f =
+    ap (λ n. items_in (slice_set (insert (s ∷ ss) (suc i) t) n rest)) (next i)
+    ∙ ap (λ u. stretch_items s ++ u) (first_split i ss t rest d item (omega (arith, h)) some e f)
+    ∙ sym (append_assoc (stretch_items s) (items_in (take i ss)) (item ∷ drop 1 (items_in (drop i ss))))
 
 -- ---- the steps of an edit
 

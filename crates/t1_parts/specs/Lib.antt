@@ -20,4 +20,5 @@ pub mod Private
 pub mod Reading
 pub mod Sections
 pub mod SourceParts
+pub mod Starts
 pub mod Stretches

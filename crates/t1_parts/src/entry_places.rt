@@ -2,14 +2,14 @@
 
 ghost use Rattle.std.specs.Prelude.{◌≡◌, ◌<◌, ◌≤◌, ◌^◌, length, IfSome};
 ghost use Rattle.std.specs.List.{position};
-ghost use Rattle.t1_parts.specs.EntryKeys.{is_entry_of, is_of_kind, IsEntryAt, IsThrough};
+ghost use Rattle.t1_parts.specs.EntryKeys.{is_entry_of, is_of_kind, IsThrough};
 ghost use Rattle.t1_parts.specs.Items.{items_in};
-ghost use Rattle.t1_parts.specs.Stretches.{AreSingle};
+ghost use Rattle.t1_parts.specs.Starts.{IsEntryOnIts};
 
 use crate::entry_key::{EntryKey, ItemKind};
 use crate::stretch::Stretch;
 
-/// How many items before an end are looked at for an entry that should stand there.
+/// How many stretches before an end are looked at for an entry that should stand there.
 const FEW: usize = 32;
 
 /// Where the entry of a key stands.
@@ -28,21 +28,19 @@ pub(crate) fn place_of_entry(stretches: &[Stretch], key: &EntryKey) -> Option<us
     None
 }
 
-/// The place of the entry of a key among stretches of one item each, where it is one of the few
-/// before an end.
+/// The index of the stretch that is the entry of a key, where it is one of the few before an end.
 pub(crate) fn entry_before(stretches: &[Stretch], end: usize, key: &EntryKey) -> Option<usize>
-    requires end { end ≤ length stretches.now }
-    requires single { AreSingle stretches.now }
-    ensures { IfSome result (IsEntryAt key.now (items_in stretches.now)) }
+    requires { end ≤ length stretches.now }
+    ensures { IfSome result (IsEntryOnIts key.now stretches.now) }
 {
     for back in 0..FEW {
         if end <= back {
             return None;
         }
-        let at = end - back - 1;
-        let stretch = &stretches[at];
+        let index = end - back - 1;
+        let stretch = &stretches[index];
         if let Some(_entry) = stretch.entry_of(key) {
-            return Some(at);
+            return Some(index);
         }
     }
     None

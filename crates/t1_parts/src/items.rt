@@ -9,7 +9,7 @@ ghost use Rattle.t1_parts.specs.declared.item.Item.{Item};
 ghost use Rattle.t1_parts.specs.Counts.{raised_item, subrs_needed, glyphs_needed};
 ghost use Rattle.t1_parts.specs.EntryKeys.{is_entry_of, is_of_kind, is_section};
 ghost use Rattle.t1_parts.specs.EntryKeys.{IsEntryAt, IsThrough};
-ghost use Rattle.t1_parts.specs.Items.{items_in, stretch_items};
+ghost use Rattle.t1_parts.specs.Items.{items_in};
 ghost use Rattle.t1_parts.specs.Stretches.{AreSingle, StandsAloneAt};
 ghost use Rattle.t1_parts.specs.ItemRefs.{item_of};
 ghost use Rattle.t1_parts.specs.LenIV.{lead_among, says_lead};
@@ -21,54 +21,48 @@ use crate::item_ref::ItemRef;
 use crate::items_iter::{ItemsIter, item_before, items_among, items_between};
 use crate::len_iv::{lead_of, says_lead};
 use crate::needs::{
-    Needs, ask_the_same, needs_after, needs_among, needs_of, needs_of_stretch, needs_there,
-    needs_without, together,
+    Needs, ask_the_same, needs_after, needs_among, needs_of, needs_there, needs_without, together,
 };
 use crate::section_ends::{end_inserted, end_pushed, end_put, end_removed};
+use crate::starts::starts_of;
 use crate::stretch::Stretch;
-use crate::stretches::{
-    copied_stretches, cut_before, drop_first, insert_stretch, item_count, place_of, put_first,
-    raise_stretches, stay_single, stretches_to,
-};
+use crate::stretches::Stretches;
 use std::alloc::{AllocError, Global};
 use std::marker::Model;
 
 /// The items of a private part. Plain lines that follow one another may stand together, as the
-/// bytes that were read; where none do, the item of a place is found at once. Their lenIV is kept,
-/// what they ask of the counts of their sections, and a place behind which no section line stands.
-/// Contracts see the list of the items, with an item for each plain line.
+/// bytes that were read. Their lenIV is kept, what they ask of the counts of their sections, and a
+/// place behind which no section line stands. Contracts see the list of the items, with an item for
+/// each plain line.
 #[derive(Drop)]
 pub struct Items<'a> {
-    stretches: Vec<Stretch<'a>>,
+    stretches: Stretches<'a>,
     len: usize,
-    are_single: bool,
     lead: u8,
     needs: Needs,
     sections_end: usize,
 }
 
 impl<'a> Model for Items<'a> {
-    ghost use Rattle.std.specs.Prelude.{◌≡◌, ◌≤◌, List, drop, false, length, true};
+    ghost use Rattle.std.specs.Prelude.{◌≡◌, ◌≤◌, List, drop, false, length};
     ghost use Rattle.std.specs.List.{list_any};
     ghost use Rattle.t1_parts.specs.declared.item.Item.{Item};
     ghost use Rattle.t1_parts.specs.Counts.{subrs_needed, glyphs_needed};
     ghost use Rattle.t1_parts.specs.EntryKeys.{is_section};
     ghost use Rattle.t1_parts.specs.Items.{items_in};
-    ghost use Rattle.t1_parts.specs.Stretches.{AreSingle};
     ghost use Rattle.t1_parts.specs.LenIV.{lead_among};
 
     ghost Value = { List Item };
 
-    ghost view = { λ items. items_in items.stretches.items };
+    ghost view = { λ items. items_in items.stretches };
 
     ghost invariant = { λ items.
-        (items.len ≡ length (items_in items.stretches.items))
-        × (items.are_single ≡ true → AreSingle items.stretches.items)
-        × (items.lead ≡ lead_among (items_in items.stretches.items))
-        × (items.needs.subrs ≡ subrs_needed (items_in items.stretches.items))
-        × (items.needs.glyphs ≡ glyphs_needed (items_in items.stretches.items))
-        × (items.sections_end ≤ length (items_in items.stretches.items))
-        × (list_any is_section (drop items.sections_end (items_in items.stretches.items))
+        (items.len ≡ length (items_in items.stretches))
+        × (items.lead ≡ lead_among (items_in items.stretches))
+        × (items.needs.subrs ≡ subrs_needed (items_in items.stretches))
+        × (items.needs.glyphs ≡ glyphs_needed (items_in items.stretches))
+        × (items.sections_end ≤ length (items_in items.stretches))
+        × (list_any is_section (drop items.sections_end (items_in items.stretches))
         ≡ false) };
 }
 
@@ -106,9 +100,8 @@ impl<'a> Items<'a> {
         ensures { result ≡ [] }
     {
         Items {
-            stretches: Vec::new(alloc),
+            stretches: Stretches::new(alloc),
             len: 0,
-            are_single: true,
             lead: 4,
             needs: Needs {
                 subrs: 0,
@@ -127,16 +120,14 @@ impl<'a> Items<'a> {
         requires { are_single ≡ true → AreSingle stretches.items }
         ensures { IfOk result (λ items. items ≡ items_in stretches.entry.items) }
     {
-        let Some(len) = item_count(stretches.as_slice(), are_single) else {
-            return Err(AllocError);
-        };
+        let alloc = *stretches.allocator();
+        let (starts, len) = starts_of(alloc, stretches.as_slice(), are_single)?;
         let lead = lead_in(stretches.as_slice(), len);
         let needs = needs_among(stretches.as_slice(), len);
         let sections_end = through_last(stretches.as_slice(), len, ItemKind::Sections);
         Ok(Items {
-            stretches,
+            stretches: Stretches::started(stretches, starts, are_single),
             len,
-            are_single,
             lead,
             needs,
             sections_end,
@@ -191,8 +182,8 @@ impl<'a> Items<'a> {
         ensures front { result.0 ≡ take at self.now }
         ensures back { result.1 ≡ drop at self.now }
     {
+        let (index, offset) = self.stretches.place_of(at);
         let stretches = self.stretches.as_slice();
-        let (index, offset) = place_of(stretches, at, self.are_single);
         let (before, from) = stretches.split_at(index);
         if index == stretches.len() {
             return (items_among(before, at), items_among(from, self.len - at));
@@ -235,11 +226,10 @@ impl<'a> Items<'a> {
     {
         let len = self.len;
         let lead = self.lead;
-        let stretches = copied_stretches(alloc, self.stretches.as_slice())?;
+        let stretches = self.stretches.copied(alloc)?;
         Ok(Items {
             stretches,
             len,
-            are_single: self.are_single,
             lead,
             needs: self.needs,
             sections_end: self.sections_end,
@@ -262,8 +252,9 @@ impl<'a> Items<'a> {
         requires { at < length self.now }
         ensures { (d : Item) → slice_index_or self.now at d ≡ item_of result }
     {
-        let (index, offset) = place_of(self.stretches.as_slice(), at, self.are_single);
-        let stretch = &self.stretches[index];
+        let (index, offset) = self.stretches.place_of(at);
+        let stretches = self.stretches.as_slice();
+        let stretch = &stretches[index];
         stretch.item(offset)
     }
 
@@ -287,16 +278,18 @@ impl<'a> Items<'a> {
         place_of_entry(self.stretches.as_slice(), key)
     }
 
-    /// The place of the entry of a key, where it is one of the few items before an end and each
-    /// stretch is known to be one item. Else nothing is said.
+    /// The place of the entry of a key, where it is one of the few items before an end that is told
+    /// as if no lines stood together: by how many other items stand from it on. Else nothing is
+    /// said.
     pub fn entry_before(&self, end: usize, key: &EntryKey) -> Option<usize>
         ensures { IfSome result (IsEntryAt key.now self.now) }
     {
-        if !self.are_single {
+        let behind = self.len.saturating_sub(end);
+        let end = self.stretches.with_single_behind(behind);
+        let Some(index) = entry_before(self.stretches.as_slice(), end, key) else {
             return None;
-        }
-        let stretches = self.stretches.as_slice();
-        entry_before(stretches, end.min(stretches.len()), key)
+        };
+        Some(self.stretches.start(index))
     }
 
     /// How many items stand through the last one of a kind. They are gone over from the end.
@@ -306,34 +299,24 @@ impl<'a> Items<'a> {
         through_last(self.stretches.as_slice(), self.len, kind)
     }
 
-    /// Adds a stretch at the end. Where memory runs out, nothing has changed.
-    pub(crate) fn push_stretch(&mut self, stretch: Stretch<'a>) -> Result<(), AllocError>
-        ensures ok { OnOk result (self.new ≡ self.old ++ stretch_items stretch.entry) }
-        ensures err { OnErr result (self.new ≡ self.old) }
-    {
-        let Some(len) = self.len.checked_add(stretch.len()) else {
-            drop(stretch);
-            return Err(AllocError);
-        };
-        let are_single = stay_single(self.are_single, &stretch);
-        let is_said = stretch.saying().is_some();
-        let more = needs_of_stretch(&stretch);
-        let sections_end = end_pushed(self.sections_end, len, &stretch);
-        self.stretches.push(stretch)?;
-        self.len = len;
-        self.are_single = are_single;
-        self.needs = together(self.needs, more);
-        self.sections_end = sections_end;
-        self.lead = lead_after(self.stretches.as_slice(), len, self.lead, is_said);
-        Ok(())
-    }
-
     /// Adds an item at the end. Where memory runs out, nothing has changed.
     pub fn push(&mut self, item: Item<'a>) -> Result<(), AllocError>
         ensures ok { OnOk result (self.new ≡ self.old ++ item.entry ∷ []) }
         ensures err { OnErr result (self.new ≡ self.old) }
     {
-        self.push_stretch(Stretch::One(item))
+        let Some(len) = self.len.checked_add(1) else {
+            drop(item);
+            return Err(AllocError);
+        };
+        let is_said = says_lead(&item);
+        let more = needs_of(&item);
+        let sections_end = end_pushed(self.sections_end, len, &item);
+        self.stretches.push(item, self.len)?;
+        self.len = len;
+        self.needs = together(self.needs, more);
+        self.sections_end = sections_end;
+        self.lead = lead_after(self.stretches.as_slice(), len, self.lead, is_said);
+        Ok(())
     }
 
     /// Puts an item in at a place. Where memory runs out, nothing has changed.
@@ -349,14 +332,14 @@ impl<'a> Items<'a> {
         let is_said = says_lead(&item);
         let more = needs_of(&item);
         let sections_end = end_inserted(self.sections_end, at, &item);
-        let index = match cut_before(&mut self.stretches, at, self.are_single) {
+        let index = match self.stretches.cut_before(at) {
             Ok(index) => index,
             Err(error) => {
                 drop(item);
                 return Err(error);
             }
         };
-        insert_stretch(&mut self.stretches, index, Stretch::One(item))?;
+        self.stretches.insert(index, at, item)?;
         self.len = len;
         self.needs = together(self.needs, more);
         self.sections_end = sections_end;
@@ -375,8 +358,8 @@ impl<'a> Items<'a> {
         let item = self.item(at);
         let is_said = item.says_lead();
         let gone = needs_there(&item);
-        let index = cut_before(&mut self.stretches, at, self.are_single)?;
-        drop_first(&mut self.stretches, index);
+        let index = self.stretches.cut_before(at)?;
+        self.stretches.drop_first(index);
         let len = self.len - 1;
         self.len = len;
         self.needs = needs_without(self.stretches.as_slice(), len, self.needs, gone);
@@ -398,14 +381,14 @@ impl<'a> Items<'a> {
         let is_said = says_either(&old, &item);
         let is_same = ask_the_same(&old, &item);
         let sections_end = end_put(self.sections_end, at, &item);
-        let index = match cut_before(&mut self.stretches, at, self.are_single) {
+        let index = match self.stretches.cut_before(at) {
             Ok(index) => index,
             Err(error) => {
                 drop(item);
                 return Err(error);
             }
         };
-        put_first(&mut self.stretches, index, item)?;
+        self.stretches.put_first(index, at, item)?;
         self.needs = needs_after(self.stretches.as_slice(), self.len, self.needs, is_same);
         self.sections_end = sections_end;
         self.lead = lead_after(self.stretches.as_slice(), self.len, self.lead, is_said);
@@ -416,11 +399,7 @@ impl<'a> Items<'a> {
     pub(crate) fn raise_counts(&mut self, subrs: u64, glyphs: u64)
         ensures { self.new ≡ map (raised_item subrs glyphs) self.old }
     {
-        let end = stretches_to(
-            self.stretches.as_slice(),
-            self.sections_end,
-            self.are_single,
-        );
-        raise_stretches(&mut self.stretches, end, subrs, glyphs);
+        let end = self.stretches.through(self.sections_end);
+        self.stretches.raise_counts(end, subrs, glyphs);
     }
 }

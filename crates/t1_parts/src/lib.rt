@@ -33,6 +33,7 @@ mod printing;
 mod private;
 mod section_ends;
 mod sections;
+mod starts;
 mod stretch;
 mod stretches;
 

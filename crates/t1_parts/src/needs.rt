@@ -3,7 +3,7 @@
 ghost use Rattle.std.specs.Prelude.{◌≡◌, ◌≤◌, ◌<◌, ◌+◌, ◌^◌, ◌∷◌, [], max, length, true};
 ghost use Rattle.t1_parts.specs.Counts.{subrs_needed, glyphs_needed};
 ghost use Rattle.t1_parts.specs.ItemRefs.{item_of};
-ghost use Rattle.t1_parts.specs.Items.{items_in, stretch_items};
+ghost use Rattle.t1_parts.specs.Items.{items_in};
 ghost use Rattle.t1_parts.specs.Needs.{AreNeeded};
 
 use crate::counts::{glyphs_needed, subrs_needed};
@@ -51,20 +51,6 @@ pub(crate) fn needs_there(item: &ItemRef) -> Needs
             glyphs: 0,
         },
         ItemRef::Item(item) => needs_of(item),
-    }
-}
-
-/// What the items of a stretch ask.
-pub(crate) fn needs_of_stretch(stretch: &Stretch) -> Needs
-    ensures needs { AreNeeded result (stretch_items stretch.now) }
-    ensures one { result.glyphs ≤ 1 }
-{
-    match stretch {
-        Stretch::One(item) => needs_of(item),
-        Stretch::Lines(_plain) => Needs {
-            subrs: 0,
-            glyphs: 0,
-        },
     }
 }
 

@@ -1,27 +1,22 @@
 //! Before which place all section lines stand, kept under edits.
 
-ghost use Rattle.std.specs.Prelude.{◌≡◌, ◌≤◌, ◌<◌, ◌+◌, ◌-◌, ◌^◌, ◌++◌, List, length, slice_set};
+ghost use Rattle.std.specs.Prelude.{◌≡◌, ◌≤◌, ◌<◌, ◌+◌, ◌-◌, ◌^◌, ◌++◌, ◌∷◌, [], List};
+ghost use Rattle.std.specs.Prelude.{length, slice_set};
 ghost use Rattle.std.specs.List.{insert, remove};
 ghost use Rattle.t1_parts.specs.declared.item.Item.{Item};
 ghost use Rattle.t1_parts.specs.EntryKeys.{AreSectionsBefore};
-ghost use Rattle.t1_parts.specs.Items.{stretch_items};
 
-use crate::entry_key::{ItemKind, is_section};
+use crate::entry_key::is_section;
 use crate::item::Item;
-use crate::stretch::Stretch;
 
-/// Before which place the section lines stand, with a stretch more, by which there are so many
-/// items.
-pub(crate) fn end_pushed(end: usize, len: usize, stretch: &Stretch) -> usize
+/// Before which place the section lines stand, with an item more, by which there are so many.
+pub(crate) fn end_pushed(end: usize, len: usize, item: &Item) -> usize
     ensures { (items : List Item)
-        → len ≡ length items + length (stretch_items stretch.now)
+        → len ≡ length items + 1
         → AreSectionsBefore end items
-        → AreSectionsBefore result (items ++ stretch_items stretch.now) }
+        → AreSectionsBefore result (items ++ item.now ∷ []) }
 {
-    match stretch.of_kind(ItemKind::Sections) {
-        Some(_section) => len,
-        None => end,
-    }
+    if is_section(item) { len } else { end }
 }
 
 /// Before which place the section lines stand, with an item put in at a place.

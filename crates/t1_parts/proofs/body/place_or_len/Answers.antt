@@ -1,4 +1,4 @@
-use Rattle.std.proofs.Common.{length, not, ◌==◌, ◌∙◌, arith}
+use Rattle.std.proofs.Common.{not, ◌==◌, ◌∙◌, arith}
 use Rattle.std.proofs.lemmas.List.Sums.{prefix_len-le-length}
 use Rattle.memchr.specs.Find.{is_byte}
 use Rattle.t1_text.proofs.ScanLaws.{first_place}

@@ -1,9 +1,9 @@
-use Rattle.t1_parts.specs.Items.{stretch_items}
-use Rattle.t1_parts.proofs.SectionEndLaws.{pushed_some, pushed_none}
+use Rattle.std.proofs.Common.{◌∷◌, [], sym, ◌∙◌, arith}
+use Rattle.t1_parts.proofs.SectionEndLaws.{pushed_some, pushed_other}
 use Rattle.t1_parts.proofs.section_ends.end_pushed.Goals as goal
 
-pub returns-in-Some : goal.returns-in-Some
-returns-in-Some c items size h = pushed_some c.args.len items (stretch_items c.args.stretch.now) size
+pub returns-then-is_section : goal.returns-then-is_section
+returns-then-is_section c items size h = pushed_some c.args.len items (c.args.item.now ∷ []) (omega (arith, size))
 
-pub returns-in-None : goal.returns-in-None
-returns-in-None c items size h = pushed_none c.args.end items (stretch_items c.args.stretch.now) c.in-None.ensures h
+pub returns-else-is_section : goal.returns-else-is_section
+returns-else-is_section c items size h = pushed_other c.args.end items c.args.item.now (sym c.is_section.ensures ∙ c.if-is_section.false) h
