@@ -4,12 +4,14 @@ pub mod Ceilings
 pub mod Convex
 pub mod Denominators
 pub mod Differences
+pub mod Digits
 pub mod EndSums
 pub mod EndValues
 pub mod Ends
 pub mod Extremes
 pub mod Fonts
 pub mod Held
+pub mod Letters
 pub mod Longs
 pub mod Products
 pub mod Rows

@@ -4,6 +4,7 @@ pub mod Box
 pub mod Common
 pub mod CubicValues
 pub mod Differences
+pub mod Letters
 pub mod Lines
 pub mod Points
 pub mod Spans

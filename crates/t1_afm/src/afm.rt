@@ -1,6 +1,7 @@
 //! The AFM file, section by section.
 ghost use Rattle.std.specs.Prelude.{◌≡◌, ◌≢◌, [], ◌∷◌, ◌++◌, Ok, Err, length, flat_map, map, codes};
-ghost use Rattle.std.specs.Prelude.{decimal, option_map};
+ghost use Rattle.std.specs.Prelude.{◌≤◌, ◌<◌, IfSome, decimal, option_map, position};
+ghost use Rattle.std.specs.List.{position_or_len};
 ghost use Rattle.std.specs.Fmt.{signed_decimal};
 ghost use Rattle.t1_code.specs.Writing.{Puts, Writes, outlet};
 ghost use Rattle.t1_code.specs.Parts.{Prints};
@@ -8,9 +9,11 @@ ghost use Rattle.t1_afm.specs.Afm.{line_text, lines_text, value_lines, values_be
 ghost use Rattle.t1_afm.specs.Afm.{values_after_box as others, scheme as scheme_of, header_lines};
 ghost use Rattle.t1_afm.specs.Afm.{heights as heights_of, char_named, char_line, section};
 ghost use Rattle.t1_afm.specs.Afm.{kerning_lines, composite_lines, afm};
+ghost use Rattle.t1_afm.specs.Letters.{is_letter};
 ghost use Rattle.t1_afm.specs.Lines.{value_bytes, values_of};
 
 use crate::bbox::BBox;
+use crate::chars::put_chars;
 use crate::line::{Word, put_line};
 use crate::metrics::{CharMetric, CompositeMetric, Header, KernPair, Metrics, Text};
 use crate::part::{Part, Value, put_parts, sides};
@@ -73,15 +76,42 @@ fn box_named(chars: &[CharMetric], name: &[u8]) -> Option<BBox>
         .map(|glyph| glyph.bbox)
 }
 
+/// Where the first glyph stands whose name has one byte.
+fn letter_at(chars: &[CharMetric]) -> Option<usize>
+    ensures value { result ≡ position is_letter chars.now }
+    ensures within { IfSome result (λ at. at < length chars.now) }
+{
+    chars
+        .iter()
+        .position(|glyph| glyph.name.as_slice().len() == 1)
+}
+
+/// How many glyphs stand before it.
+fn letter_start(chars: &[CharMetric]) -> usize
+    ensures within { result ≤ length chars.now }
+    ensures value { result ≡ position_or_len is_letter chars.now }
+{
+    letter_at(chars).unwrap_or(chars.len())
+}
+
+/// The glyphs from the first one on whose name has one byte. A font that has none is looked through
+/// once, and not once for each height.
+fn from_letter<'c, 'a>(chars: &'c [CharMetric<'a>]) -> &'c [CharMetric<'a>]
+    ensures { heights_of result.now ≡ heights_of chars.now }
+{
+    chars.split_at(letter_start(chars)).1
+}
+
 /// The heights that are read off glyphs.
 fn heights(chars: &[CharMetric]) -> [Value<'static>; 4]
     ensures { values_of result ≡ heights_of chars.now }
 {
+    let letters = from_letter(chars);
     [
-        number(b"CapHeight", box_named(chars, b"H").map(|b| b.top)),
-        number(b"XHeight", box_named(chars, b"x").map(|b| b.top)),
-        number(b"Ascender", box_named(chars, b"d").map(|b| b.top)),
-        number(b"Descender", box_named(chars, b"p").map(|b| b.bottom)),
+        number(b"CapHeight", box_named(letters, b"H").map(|b| b.top)),
+        number(b"XHeight", box_named(letters, b"x").map(|b| b.top)),
+        number(b"Ascender", box_named(letters, b"d").map(|b| b.top)),
+        number(b"Descender", box_named(letters, b"p").map(|b| b.bottom)),
     ]
 }
 
@@ -142,6 +172,22 @@ fn put_section<W: Write, P: Part>(
     put_line(out, chunk, end, &[])
 }
 
+/// Puts the lines of the glyphs, between the line that counts them and the one that ends them.
+fn put_char_section<W: Write>(
+    out: &mut Counted<W>,
+    chunk: &mut Chunk,
+    chars: &[CharMetric],
+) -> io::Result<()>
+    ensures { Puts W.contents (outlet out.old chunk.old) (outlet out.new chunk.new)
+        (line_text (codes "StartCharMetrics" ∷ decimal (length chars.now) ∷ [])
+        ++ (flat_map (λ c. line_text (char_line c)) chars.now
+        ++ line_text (codes "EndCharMetrics" ∷ []))) result }
+{
+    put_line(out, chunk, b"StartCharMetrics", &[Word::Count(chars.len())])?;
+    put_chars(out, chunk, chars)?;
+    put_line(out, chunk, b"EndCharMetrics", &[])
+}
+
 /// Puts the heights and the lines of the glyphs.
 fn put_glyphs<W: Write>(
     out: &mut Counted<W>,
@@ -155,7 +201,7 @@ fn put_glyphs<W: Write>(
         (map char_line chars.now))) result }
 {
     put_values(out, chunk, &heights(chars))?;
-    put_section(out, chunk, b"StartCharMetrics", b"EndCharMetrics", chars)
+    put_char_section(out, chunk, chars)
 }
 
 /// Puts the kerning data, where there is a pair.

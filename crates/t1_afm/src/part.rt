@@ -1,15 +1,14 @@
 //! Parts of the file, each of which puts its own text. A line whose form is fixed is put as slices:
 //! its values, and the text between each two of them.
-ghost use Rattle.std.specs.Prelude.{◌≡◌, ℕ, List, [], ◌∷◌, ◌++◌, flat_map, codes};
+ghost use Rattle.std.specs.Prelude.{◌≡◌, [], ◌∷◌, flat_map, codes};
 ghost use Rattle.std.specs.Fmt.{signed_decimal};
 ghost use Rattle.t1_code.specs.Writing.{Puts, outlet};
-ghost use Rattle.t1_afm.specs.Afm.{line_text, rest_text, lines_text, value_line, char_line};
+ghost use Rattle.t1_afm.specs.Afm.{line_text, lines_text, value_line, char_line};
 ghost use Rattle.t1_afm.specs.Afm.{pair_line, composite_line, sides, entries, code_number};
 ghost use Rattle.t1_afm.specs.Lines.{line_words, word_text, value_bytes};
 
 use crate::bbox::BBox;
 use crate::line::{Word, put_line};
-use crate::line_end::LineEnd;
 use crate::metrics::{CharMetric, CompositeMetric, KernPair};
 use itoa::Buffer;
 use std::io::{self, Write};
@@ -62,6 +61,8 @@ impl Part for Value<'_> {
 /// The words of a line that aren't values.
 const END: Word<'static> = Word::Text(b";");
 
+const ONE: Word<'static> = Word::Text(b"WX");
+
 const BOTH: Word<'static> = Word::Text(b"W");
 
 const NAME: Word<'static> = Word::Text(b"N");
@@ -96,56 +97,22 @@ fn code_number(code: Option<u8>) -> i64
     }
 }
 
-/// A glyph's line up to its name, with the width along x alone.
-fn width_front(code: i64, wx: i64) -> LineEnd
-    ensures { (rest : List ℕ)
-        → result ++ rest
-        ≡ codes "C "
-        ++ (signed_decimal code
-        ++ (codes " ; WX " ++ (signed_decimal wx ++ (codes " ; N " ++ rest)))) }
-{
-    let mut front = LineEnd::new();
-    front.text(b" ; N ");
-    front.number(wx);
-    front.text(b" ; WX ");
-    front.number(code);
-    front.text(b"C ");
-    front
-}
-
-/// A glyph's line from its name on: its box.
-fn box_end(bbox: &BBox) -> LineEnd
-    ensures { result ≡ codes " ; B" ++ rest_text (sides bbox.now ++ codes ";" ∷ []) }
-{
-    let mut end = LineEnd::new();
-    end.text(b" ;\n");
-    end.number(i64::from(bbox.top));
-    end.text(b" ");
-    end.number(i64::from(bbox.right));
-    end.text(b" ");
-    end.number(i64::from(bbox.bottom));
-    end.text(b" ");
-    end.number(i64::from(bbox.left));
-    end.text(b" ; B ");
-    end
-}
-
 impl<'a> CharMetric<'a> {
-    /// Puts the line with the width along x alone.
-    #[tactic(auto, using(crate::proofs::WrittenLines::glyph_line))]
-    fn put_across<W: Write>(&self, out: &mut Counted<W>, chunk: &mut Chunk) -> io::Result<()>
-        ensures { Puts W.contents (outlet out.old chunk.old) (outlet out.new chunk.new)
-            (line_text
-            (codes "C" ∷ entries (codes "WX" ∷ signed_decimal self.now.wx ∷ []) self.now))
-            result }
+    /// The words after `C`, with the width along x alone.
+    fn words_of_one(&self) -> [Word<'a>; 14]
+        ensures { line_words result
+            ≡ entries (codes "WX" ∷ signed_decimal self.now.wx ∷ []) self.now }
     {
-        let front = width_front(code_number(self.code), self.wx);
-        let end = box_end(&self.bbox);
-        put_slices(
-            out,
-            chunk,
-            &[front.as_slice(), self.name.as_slice(), end.as_slice()],
-        )
+        let code = Word::Number(code_number(self.code));
+        let wx = Word::Number(self.wx);
+        let name = Word::Text(self.name.as_slice());
+        let left = side(self.bbox.left);
+        let bottom = side(self.bbox.bottom);
+        let right = side(self.bbox.right);
+        let top = side(self.bbox.top);
+        [
+            code, END, ONE, wx, END, NAME, name, END, BOX, left, bottom, right, top, END,
+        ]
     }
 
     /// The words after `C`, with the width along both axes.
@@ -173,7 +140,7 @@ impl Part for CharMetric<'_> {
 
     fn put<W: Write>(&self, out: &mut Counted<W>, chunk: &mut Chunk) -> io::Result<()> {
         if self.wy == 0 {
-            self.put_across(out, chunk)
+            put_line(out, chunk, b"C", &self.words_of_one())
         } else {
             put_line(out, chunk, b"C", &self.words_of_both())
         }

@@ -18,4 +18,4 @@ returns g c =
     let w0 = Written-from (passing g.W.Write.contents) a _ _ (glyphs_are c.args.chars.now) in
     let b0 = outlet c.put_values.new.out c.put_values.new.chunk in
     let w1 = Written-step (passing g.W.Write.contents) a a b0 _ (lines_text (value_lines (heights c.args.chars.now))) _ w0 (rw c.heights.ensures at c.in_ok-put_values.ensures) in
-    Written-last (passing g.W.Write.contents) c.put_section.result a b0 (outlet c.put_section.new.out c.put_section.new.chunk) _ (section_text char_line (codes "StartCharMetrics") (codes "EndCharMetrics") c.args.chars.now) w1 c.put_section.ensures
+    Written-last (passing g.W.Write.contents) c.put_char_section.result a b0 (outlet c.put_char_section.new.out c.put_char_section.new.chunk) _ (section_text char_line (codes "StartCharMetrics") (codes "EndCharMetrics") c.args.chars.now) w1 c.put_char_section.ensures
