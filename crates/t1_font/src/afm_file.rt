@@ -1,5 +1,5 @@
 //! A font's AFM file.
-ghost use Rattle.std.specs.Prelude.{◌≡◌, Ok, IfOk};
+ghost use Rattle.std.specs.Prelude.{◌≡◌, [], Ok, IfOk};
 ghost use Rattle.t1_code.specs.Parts.{Prints};
 ghost use Rattle.t1_afm.specs.Afm.{afm};
 ghost use Rattle.t1_font.specs.FontMetrics.{metrics_of};
@@ -8,7 +8,7 @@ use crate::font_metrics::metrics;
 use crate::glyphs::MeasuredGlyphs;
 use std::alloc::{AllocError, Global};
 use std::io::Write;
-use t1_afm::write_afm;
+use t1_afm::{Metrics, write_afm};
 use t1_code::{Counted, OutError};
 use t1_pairs::Pairs;
 use t1_source::Source;
@@ -29,17 +29,22 @@ pub fn write_source_afm<W: Write>(
     write_afm(&metrics, out)
 }
 
-/// The AFM file of a source, its pairs and its measured glyphs.
-pub fn afm_of_source(
-    alloc: Global,
-    source: &Source,
-    pairs: &Pairs,
-    glyphs: &MeasuredGlyphs,
-) -> Result<Vec<u8>, AllocError>
-    ensures { IfOk result (λ file. file.items ≡ afm (metrics_of source.now pairs.now glyphs.now)) }
+/// What the most lines take of an AFM file.
+const LINE: usize = 48;
+
+/// A vector that takes the AFM file of most fonts without growing.
+fn room_for(alloc: Global, metrics: &Metrics) -> Result<Vec<u8>, AllocError>
+    ensures { IfOk result (λ room. room.items ≡ []) }
 {
-    let mut out = Counted::new(Vec::new(alloc));
-    match write_source_afm(alloc, source, pairs, glyphs, &mut out) {
+    Vec::with_capacity(alloc, metrics.chars.len().saturating_mul(LINE))
+}
+
+/// The AFM file that says this of a source.
+pub fn afm_text(alloc: Global, metrics: &Metrics) -> Result<Vec<u8>, AllocError>
+    ensures { IfOk result (λ file. file.items ≡ afm metrics.now) }
+{
+    let mut out = Counted::new(room_for(alloc, metrics)?);
+    match write_afm(metrics, &mut out) {
         Ok(()) => Ok(out.into_inner()),
         // A vector fails to take bytes only where it can't grow.
         Err(_) => Err(AllocError),

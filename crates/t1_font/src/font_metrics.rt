@@ -23,7 +23,7 @@ fn value<'a>(source: &'a Source, key: &str) -> Option<Text<'a>>
 }
 
 /// The values about the whole font.
-fn header<'a>(source: &'a Source) -> Header<'a>
+pub fn header<'a>(source: &'a Source) -> Header<'a>
     ensures { result ≡ header_values source.now }
 {
     Header {

@@ -8,7 +8,8 @@
 //! glyphs one after another, and [`metrics`] is what the AFM file of a source and its pairs says.
 //! [`runs_of`] and [`glyph_metrics_of`] run and measure glyphs whose bodies are stored.
 //! [`write_source_pfb`] and [`write_source_afm`] write the files, whose plain parts are
-//! [`clear_text`] and [`trailer`].
+//! [`clear_text`] and [`trailer`]. [`header`], [`CharsByCode`] and [`afm_text`] are for an AFM file
+//! that is made of kept runs.
 //!
 //! All of it is for the crates above. Users take the same from `t1_session`, whose calls read the
 //! source too.
@@ -22,7 +23,9 @@
 //!   the first fault: of a body, F23, or of a glyph, at the glyph: of its own run, else of a part,
 //!   else of the join (`measured_source`). Each glyph's turn counts one run.
 //! - `metrics`: glyphs by their codes and then in the source's order, the pairs whose both glyphs
-//!   are there, the composites with the move of their accents (`metrics_of`).
+//!   are there, the composites with the move of their accents (`metrics_of`). `header`: its values
+//!   about the whole font. `CharsByCode`: for each code its glyphs, in the order in which they came
+//!   (`by_code`). `afm_text`: the file as a text.
 //! - `write_source_pfb`, `write_source_pfa`, `write_source_afm`: `Prints` of the source's files.
 //!   `usage_text`: `usage_table`.
 //! - `runs_of`: the meter's count on every outcome; each kept run is numbered above the count
@@ -35,6 +38,7 @@ mod afm_file;
 mod assembly;
 mod bodies;
 mod chars;
+mod chars_by_code;
 mod codes;
 mod composites;
 mod font_metrics;
@@ -55,10 +59,11 @@ mod subr_bodies;
 mod turns;
 mod usage;
 
-pub use afm_file::{afm_of_source, write_source_afm};
+pub use afm_file::{afm_text, write_source_afm};
 pub use assembly::{clear_text, trailer, write_source_pfa, write_source_pfb};
 pub use bodies::{compiled, compiled_glyph, compiled_subr};
-pub use font_metrics::metrics;
+pub use chars_by_code::CharsByCode;
+pub use font_metrics::{header, metrics};
 pub use glyph_metrics::{GlyphMetrics, PlacedParts, glyph_metrics_of, metrics_of_run};
 pub use glyphs::{MeasuredGlyphs, glyph_names};
 pub use lengths::{TEN_DIGITS, check_counts, check_parts, checked_bodies};

@@ -1,6 +1,7 @@
 pub mod Building
 pub mod ChangedBodies
 pub mod Changes
+pub mod Coding
 pub mod EditChecks
 pub mod Entries
 pub mod FirstRecords
@@ -11,6 +12,7 @@ pub mod Meeting
 pub mod OrderNames
 pub mod Preparing
 pub mod Reaching
+pub mod Recording
 pub mod Reordering
 pub mod Reporting
 pub mod Settled

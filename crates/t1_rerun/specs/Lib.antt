@@ -3,6 +3,7 @@ pub mod EntryChanges
 pub mod Measured
 pub mod Newest
 pub mod Opened
+pub mod RecordedMetrics
 pub mod Renewals
 pub mod Renewing
 pub mod Right

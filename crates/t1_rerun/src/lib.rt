@@ -2,8 +2,8 @@
 //! The records of a font, from scratch and after an edit that is judged by the glyphs that it makes
 //! stale.
 //!
-//! [`opened_records`] gives the records of a source, or its first fault, and [`measured_records`]
-//! the metrics of the font by them.
+//! [`opened_records`] gives the records of a source, or its first fault, [`measured_records`] the
+//! metrics of the font by them, and [`recorded_metrics`] what its AFM file says.
 //!
 //! [`prepare_changes`] and [`settle_ready`] bring them to those of an edited source in two steps,
 //! for the entries that its edits name: the glyphs that these make stale are run, each once, and
@@ -20,11 +20,13 @@
 //! glyphs alone, each once (`rerun`, `counted`), and makes all allocations; it answers the first
 //! fault, and what contracts see of the records stays (`same`). `settle_ready` makes the change,
 //! takes no memory and can't fail: the records are right for the edited source (`right`), and those
-//! that aren't stale keep the numbers of their runs (`renews`). `measured_records`: the metrics by
-//! right records are those from scratch.
+//! that aren't stale keep the numbers of their runs (`renews`). `measured_records`,
+//! `recorded_metrics`: the metrics by right records, and what the file says by them, are those from
+//! scratch.
 
 mod bodies;
 mod changing;
+mod coded;
 mod edit_change;
 mod entry_change;
 mod judging;
@@ -33,6 +35,7 @@ mod newest;
 mod opening;
 mod order;
 mod prepared;
+mod recorded;
 mod renewal;
 mod reruns;
 mod settling;
@@ -48,5 +51,6 @@ pub use newest::Newest;
 pub use opening::opened_records;
 pub use order::GlyphOrder;
 pub use prepared::Prepared;
+pub use recorded::recorded_metrics;
 pub use renewal::Renewal;
 pub use settling::{Ready, make_ready, settle};

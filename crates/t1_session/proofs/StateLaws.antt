@@ -84,7 +84,7 @@ has_file s font e =
     file-made s long.0 long.1
 
 -- its files in other forms: no form has a fault of its own
-checked-metrics : (s : SourceParts) → source_check s ≡ Ok tt → (font : MeasuredFont) × (measured_source s ≡ Ok font)
+pub checked-metrics : (s : SourceParts) → source_check s ≡ Ok tt → (font : MeasuredFont) × (measured_source s ≡ Ok font)
 checked-metrics s e = let step = bind_ok (measured_source s) (λ metrics. Ok (tt {0})) tt e in (step.0, step.1)
 
 blocks-of : (size : ℕ) (clear private trailer file : List ℕ) → pfb_of whole_file clear private trailer ≡ Ok file → (made : List ℕ) × (pfb_of size clear private trailer ≡ Ok made)
@@ -170,6 +170,11 @@ pub uses_shown : {A E : Type 0} (given : Result (Vec ℕ A) E) (s : SessionState
     → IfOk given (λ found. printed s prints.Uses ≡ Data found.items)
 uses_shown (Ok found) s table is known = ap file_answer known ∙ ap (λ (l : List ℕ). Data l) (sym is)
 uses_shown (Err e) s table is known = tt
+
+-- what an answer's value is said to be, it is by what else is known
+pub still_ok : {T E : Type 0} {P Q : T → Type 0} (r : Result T E) → ((x : T) → P x → Q x) → IfOk r P → IfOk r Q
+still_ok (Ok x) more is = more x is
+still_ok (Err e) more is = tt
 
 -- ---- its texts from scratch
 

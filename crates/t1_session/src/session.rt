@@ -58,7 +58,9 @@ ghost use Rattle.t1_pairs.specs.Kerning.{kern, pairs};
 ghost use Rattle.t1_parts.specs.Printing.{text};
 ghost use Rattle.t1_parts.specs.Reading.{reads};
 ghost use Rattle.t1_code.specs.Parts.{Prints};
+ghost use Rattle.t1_font.specs.FontMetrics.{metrics_of};
 ghost use Rattle.t1_font.specs.Glyphs.{glyph_names};
+ghost use Rattle.t1_font.specs.MeasuredGlyphs.{MeasuredFont};
 ghost use Rattle.t1_font.specs.RunCounts.{counted};
 ghost use Rattle.t1_font.specs.SourceChecks.{measured_source, source_check};
 ghost use Rattle.t1_cache.specs.EditKeys.{named};
@@ -98,9 +100,10 @@ use crate::refused::{keep, refused_batch, refused_single, refused_text};
 use std::alloc::AllocError;
 use std::io::Write;
 use std::mem;
+use t1_afm::{Metrics, write_afm};
 use t1_code::{Counted, OutError, Pfa, Pfb, WHOLE_PARTS};
 use t1_commands::{Answer, PfaData, PfbData, Print, Show, block_size, put_answer};
-use t1_font::{MeasuredGlyphs, afm_of_source, usage_text, write_source_afm};
+use t1_font::{MeasuredGlyphs, afm_text, usage_text};
 use t1_frac::{Bytes, Refusal};
 use t1_held::{
     EditedEntry, Edits, held_metrics, held_of, hint_of, prepare_edits, settle, write_held_file,
@@ -109,6 +112,7 @@ use t1_outline::glyph_outline;
 use t1_outline::laws::a_source_shows_its_outlines;
 use t1_pairs::laws::text_of_pairs_read;
 use t1_refusal::glyph_named;
+use t1_rerun::recorded_metrics;
 use t1_source::laws::{source_is_well_formed, text_of_source_read};
 use t1_source::{Cause, Change, Edit, Rule};
 
@@ -459,6 +463,17 @@ impl<'a> Session<'a> {
         held_metrics(self.alloc, &self.held)
     }
 
+    /// What the AFM file says.
+    fn metrics(&self) -> Result<Metrics<'_>, AllocError>
+        ensures { IfOk result
+            (λ metrics.
+            (font : MeasuredFont)
+            → measured_source self.now.state.source ≡ Ok font
+            → metrics ≡ metrics_of self.now.state.source self.now.state.pairs font) }
+    {
+        recorded_metrics(self.alloc, &self.source, &self.pairs, &self.held.records)
+    }
+
     /// Writes the PFB file: that of the printed source and pairs from scratch.
     #[tactic(auto, using(crate::proofs::StateLaws::pfb_checked))]
     pub fn print_pfb<W: Write>(&self, out: &mut Counted<W>) -> Result<(), OutError>
@@ -508,8 +523,8 @@ impl<'a> Session<'a> {
         ensures no_fault { AnswersNoFault result }
     {
         self.reads_back();
-        let glyphs = self.glyphs()?;
-        write_source_afm(self.alloc, &self.source, &self.pairs, &glyphs, out)
+        let metrics = self.metrics()?;
+        write_afm(&metrics, out)
     }
 
     /// Writes the usage table: that of the printed source from scratch.
@@ -668,8 +683,8 @@ impl<'a> Session<'a> {
         ensures { IfOk result (λ text. printed self.now.state prints.Afm ≡ Data text.items) }
     {
         self.reads_back();
-        let glyphs = self.glyphs()?;
-        afm_of_source(self.alloc, &self.source, &self.pairs, &glyphs)
+        let metrics = self.metrics()?;
+        afm_text(self.alloc, &metrics)
     }
 
     /// The usage table.
