@@ -4,7 +4,7 @@ ghost use Rattle.std.specs.Prelude.{◌≡◌, ◌∷◌, ◌+◌, ◌≤◌, Li
 ghost use Rattle.std.specs.Prelude.{None, length};
 ghost use Rattle.t1_code.specs.declared.command.Command.{Command as CommandOf};
 ghost use Rattle.t1_run.specs.Continuing.{Continues};
-ghost use Rattle.t1_run.specs.Dispatch.{next_word_follows, pushes_value};
+ghost use Rattle.t1_run.specs.Dispatch.{next_word_follows, pushes_value, sets_point};
 ghost use Rattle.t1_run.specs.Run.{FontBodies};
 ghost use Rattle.t1_frac.specs.Limits.{exceeds};
 ghost use Rattle.t1_run.specs.Machine.{state_of, going_on, answered, asked_step, MakesStep};
@@ -14,6 +14,7 @@ ghost use Rattle.t1_run.specs.Step.{push as push_of, pop_result as pop_of, divid
 ghost use Rattle.t1_run.specs.Step.{call as call_of, Call, Compose, Fault, with_stack};
 ghost use Rattle.t1_code.specs.declared.command.Command.TheVariants as Commands;
 ghost use Rattle.t1_run.specs.Words.{step as step_of, execute as execute_of, rule as rule_of};
+ghost use Rattle.t1_run.specs.Words.{draws as draws_of};
 
 use crate::checks::{check_operands, draws_or_ends, needs_bearing, sets_bearing, takes};
 use crate::halt::Halt;
@@ -257,8 +258,113 @@ impl State {
         self.carry_out(command)
     }
 
-    /// The same. The commands that fonts have most are named, so that the compiler knows which
-    /// tests each of them has, and which rule comes after them.
+    /// The same for a command that draws.
+    #[inline(always)]
+    fn execute_drawing(&mut self, command: Command) -> Result<(), Halt>
+        requires kind { draws_of command ≡ true }
+        ensures reported { MakesStep going_on (execute_of command (state_of self.old)) result
+            self.new }
+        ensures steps { self.new.steps ≡ self.old.steps }
+    {
+        self.test(command)?;
+        self.draw(command)
+    }
+
+    /// The same for a command that sets the current point and draws nothing.
+    #[inline(always)]
+    fn execute_placing(&mut self, command: Command) -> Result<(), Halt>
+        requires kind { sets_point command ≡ true }
+        ensures reported { MakesStep going_on (execute_of command (state_of self.old)) result
+            self.new }
+        ensures steps { self.new.steps ≡ self.old.steps }
+    {
+        self.test(command)?;
+        Ok(self.place(command)?)
+    }
+
+    #[inline(never)]
+    fn r_line_to(&mut self) -> Result<(), Halt>
+        ensures reported { MakesStep going_on (execute_of Commands.RLineTo (state_of self.old))
+            result self.new }
+        ensures steps { self.new.steps ≡ self.old.steps }
+    {
+        self.execute_drawing(Command::RLineTo)
+    }
+
+    #[inline(never)]
+    fn h_line_to(&mut self) -> Result<(), Halt>
+        ensures reported { MakesStep going_on (execute_of Commands.HLineTo (state_of self.old))
+            result self.new }
+        ensures steps { self.new.steps ≡ self.old.steps }
+    {
+        self.execute_drawing(Command::HLineTo)
+    }
+
+    #[inline(never)]
+    fn v_line_to(&mut self) -> Result<(), Halt>
+        ensures reported { MakesStep going_on (execute_of Commands.VLineTo (state_of self.old))
+            result self.new }
+        ensures steps { self.new.steps ≡ self.old.steps }
+    {
+        self.execute_drawing(Command::VLineTo)
+    }
+
+    #[inline(never)]
+    fn rr_curve_to(&mut self) -> Result<(), Halt>
+        ensures reported { MakesStep going_on (execute_of Commands.RRCurveTo (state_of self.old))
+            result self.new }
+        ensures steps { self.new.steps ≡ self.old.steps }
+    {
+        self.execute_drawing(Command::RRCurveTo)
+    }
+
+    #[inline(never)]
+    fn vh_curve_to(&mut self) -> Result<(), Halt>
+        ensures reported { MakesStep going_on (execute_of Commands.VHCurveTo (state_of self.old))
+            result self.new }
+        ensures steps { self.new.steps ≡ self.old.steps }
+    {
+        self.execute_drawing(Command::VHCurveTo)
+    }
+
+    #[inline(never)]
+    fn hv_curve_to(&mut self) -> Result<(), Halt>
+        ensures reported { MakesStep going_on (execute_of Commands.HVCurveTo (state_of self.old))
+            result self.new }
+        ensures steps { self.new.steps ≡ self.old.steps }
+    {
+        self.execute_drawing(Command::HVCurveTo)
+    }
+
+    #[inline(never)]
+    fn r_move_to(&mut self) -> Result<(), Halt>
+        ensures reported { MakesStep going_on (execute_of Commands.RMoveTo (state_of self.old))
+            result self.new }
+        ensures steps { self.new.steps ≡ self.old.steps }
+    {
+        self.execute_placing(Command::RMoveTo)
+    }
+
+    #[inline(never)]
+    fn h_move_to(&mut self) -> Result<(), Halt>
+        ensures reported { MakesStep going_on (execute_of Commands.HMoveTo (state_of self.old))
+            result self.new }
+        ensures steps { self.new.steps ≡ self.old.steps }
+    {
+        self.execute_placing(Command::HMoveTo)
+    }
+
+    #[inline(never)]
+    fn v_move_to(&mut self) -> Result<(), Halt>
+        ensures reported { MakesStep going_on (execute_of Commands.VMoveTo (state_of self.old))
+            result self.new }
+        ensures steps { self.new.steps ≡ self.old.steps }
+    {
+        self.execute_placing(Command::VMoveTo)
+    }
+
+    /// The same. The commands that fonts have most have functions of their own, in which the
+    /// compiler knows which tests each of them has, and which rule comes after them.
     #[inline(always)]
     fn execute_by_name(&mut self, command: Command) -> Result<(), Halt>
         requires kind { next_word_follows command ≡ true }
@@ -267,17 +373,15 @@ impl State {
         ensures steps { self.new.steps ≡ self.old.steps }
     {
         match command {
-            Command::RLineTo => self.execute(Command::RLineTo),
-            Command::HLineTo => self.execute(Command::HLineTo),
-            Command::VLineTo => self.execute(Command::VLineTo),
-            Command::RRCurveTo => self.execute(Command::RRCurveTo),
-            Command::VHCurveTo => self.execute(Command::VHCurveTo),
-            Command::HVCurveTo => self.execute(Command::HVCurveTo),
-            Command::RMoveTo => self.execute(Command::RMoveTo),
-            Command::HMoveTo => self.execute(Command::HMoveTo),
-            Command::VMoveTo => self.execute(Command::VMoveTo),
-            Command::ClosePath => self.execute(Command::ClosePath),
-            Command::Div => self.execute(Command::Div),
+            Command::RLineTo => self.r_line_to(),
+            Command::HLineTo => self.h_line_to(),
+            Command::VLineTo => self.v_line_to(),
+            Command::RRCurveTo => self.rr_curve_to(),
+            Command::VHCurveTo => self.vh_curve_to(),
+            Command::HVCurveTo => self.hv_curve_to(),
+            Command::RMoveTo => self.r_move_to(),
+            Command::HMoveTo => self.h_move_to(),
+            Command::VMoveTo => self.v_move_to(),
             _ => self.execute(command),
         }
     }
