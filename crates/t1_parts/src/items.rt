@@ -14,6 +14,7 @@ ghost use Rattle.t1_parts.specs.Stretches.{AreSingle, StandsAloneAt};
 ghost use Rattle.t1_parts.specs.ItemRefs.{item_of};
 ghost use Rattle.t1_parts.specs.LenIV.{lead_among, says_lead};
 
+use crate::entry_counts::EntryCounts;
 use crate::entry_key::{EntryKey, ItemKind};
 use crate::entry_places::{entry_before, place_of_entry, through_last};
 use crate::item::Item;
@@ -122,11 +123,12 @@ impl<'a> Items<'a> {
     {
         let alloc = *stretches.allocator();
         let (starts, len) = starts_of(alloc, stretches.as_slice(), are_single)?;
+        let entries = EntryCounts::of(alloc, stretches.as_slice())?;
         let lead = lead_in(stretches.as_slice(), len);
         let needs = needs_among(stretches.as_slice(), len);
         let sections_end = through_last(stretches.as_slice(), len, ItemKind::Sections);
         Ok(Items {
-            stretches: Stretches::started(stretches, starts, are_single),
+            stretches: Stretches::started(stretches, starts, entries, are_single),
             len,
             lead,
             needs,
@@ -279,13 +281,12 @@ impl<'a> Items<'a> {
     }
 
     /// The place of the entry of a key, where it is one of the few items before an end that is told
-    /// as if no lines stood together: by how many other items stand from it on. Else nothing is
-    /// said.
+    /// as if all items were entries: by how many entries stand from it on. Else nothing is said.
     pub fn entry_before(&self, end: usize, key: &EntryKey) -> Option<usize>
         ensures { IfSome result (IsEntryAt key.now self.now) }
     {
         let behind = self.len.saturating_sub(end);
-        let end = self.stretches.with_single_behind(behind);
+        let end = self.stretches.with_entries_behind(behind);
         let Some(index) = entry_before(self.stretches.as_slice(), end, key) else {
             return None;
         };

@@ -15,6 +15,7 @@ mod body;
 mod counts;
 mod encoding;
 mod entries;
+mod entry_counts;
 mod entry_key;
 mod entry_places;
 mod gathered;

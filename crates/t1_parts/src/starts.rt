@@ -10,9 +10,6 @@ ghost use Rattle.t1_parts.specs.Stretches.{AreSingle};
 use crate::stretch::Stretch;
 use std::alloc::{AllocError, Global};
 
-/// How many starts are counted through before they are halved.
-const MANY: usize = 512;
-
 /// Where each of some stretches starts, and how many items they have. The stretches are counted
 /// through.
 fn counted_starts(alloc: Global, stretches: &[Stretch]) -> Result<(Vec<usize>, usize), AllocError>
@@ -74,49 +71,6 @@ pub(crate) fn last_start(starts: &[usize], at: usize) -> usize
         }
     }
     from
-}
-
-/// How many stretches of one item start before the last of some starts.
-fn count_single(starts: &[usize]) -> usize {
-    let mut count = 0;
-    for index in 1..starts.len() {
-        if starts[index].wrapping_sub(starts[index - 1]) == 1 {
-            count += 1;
-        }
-    }
-    count
-}
-
-/// An index among some, which is not far from their end.
-fn index_among(from: usize, end: usize) -> usize
-    requires { from < end }
-    ensures { (from ≤ result) × (result < end) }
-{
-    if MANY < end - from {
-        return end - MANY;
-    }
-    from + (end - from) / 2
-}
-
-/// The index of a stretch, where from it on so many stretches of one item start before the last
-/// start. Time alone hangs on it.
-pub(crate) fn with_single_behind(starts: &[usize], behind: usize) -> usize
-    ensures { result ≤ length starts.now }
-{
-    let mut left = behind;
-    let mut from = 0;
-    let mut end = starts.len().saturating_sub(1);
-    while from < end {
-        let index = index_among(from, end);
-        let count = count_single(starts.split_at(end + 1).0.split_at(index).1);
-        if left < count {
-            from = index + 1;
-        } else {
-            left -= count;
-            end = index;
-        }
-    }
-    end
 }
 
 /// Raises the starts from an index on by one.

@@ -9,8 +9,9 @@ ghost use Rattle.t1_parts.specs.Items.{items_in, stretch_items};
 ghost use Rattle.t1_parts.specs.Starts.{AreStarts, starts_from};
 ghost use Rattle.t1_parts.specs.Stretches.{raised_stretch, StandsAloneAt, IsPlaceOfItem};
 
+use crate::entry_counts::{EntryCounts, is_entry, is_entry_alone};
 use crate::item::Item;
-use crate::starts::{copied_starts, last_start, lower_starts, raise_starts, with_single_behind};
+use crate::starts::{copied_starts, last_start, lower_starts, raise_starts};
 use crate::stretch::Stretch;
 use std::alloc::{AllocError, Global};
 use std::marker::Model;
@@ -23,6 +24,7 @@ use std::mem;
 pub(crate) struct Stretches<'a> {
     stretches: Vec<Stretch<'a>>,
     starts: Vec<usize>,
+    entries: EntryCounts,
     are_single: bool,
 }
 
@@ -124,32 +126,41 @@ impl<'a> Stretches<'a> {
         Stretches {
             stretches: Vec::new(alloc),
             starts: Vec::new(alloc),
+            entries: EntryCounts::new(alloc),
             are_single: true,
         }
     }
 
-    /// Some stretches, with the starts that are kept of them.
-    pub(crate) fn started(stretches: Vec<Stretch<'a>>, starts: Vec<usize>, are_single: bool) -> Self
+    /// Some stretches, with what is kept of them.
+    pub(crate) fn started(
+        stretches: Vec<Stretch<'a>>,
+        starts: Vec<usize>,
+        entries: EntryCounts,
+        are_single: bool,
+    ) -> Self
         requires { AreStarts are_single starts.items stretches.items }
         ensures { result ≡ stretches.entry.items }
     {
         Stretches {
             stretches,
             starts,
+            entries,
             are_single,
         }
     }
 
-    /// A copy. Only texts that are owned, and the starts, take memory.
+    /// A copy. Only texts that are owned, the starts and the counts take memory.
     pub(crate) fn copied(&self, alloc: Global) -> Result<Stretches<'a>, AllocError>
         ensures { IfOk result (λ copy. copy ≡ self.now) }
     {
         let are_single = self.are_single;
         let starts = copied_starts(alloc, self.starts.as_slice())?;
+        let entries = self.entries.copied(alloc)?;
         let stretches = copied_stretches(alloc, self.stretches.as_slice())?;
         Ok(Stretches {
             stretches,
             starts,
+            entries,
             are_single,
         })
     }
@@ -184,15 +195,11 @@ impl<'a> Stretches<'a> {
         self.starts[index]
     }
 
-    /// The index of a stretch from which on so many stand that are one item. Time alone hangs on
-    /// it.
-    pub(crate) fn with_single_behind(&self, behind: usize) -> usize
+    /// The index of a stretch from which on so many entries stand. Time alone hangs on it.
+    pub(crate) fn with_entries_behind(&self, behind: usize) -> usize
         ensures { result ≤ length self.now }
     {
-        if self.are_single {
-            return self.stretches.len().saturating_sub(behind);
-        }
-        with_single_behind(self.starts.as_slice(), behind)
+        self.entries.with_behind(behind, self.stretches.len())
     }
 
     /// How many stretches have the first items up to a place.
@@ -215,8 +222,14 @@ impl<'a> Stretches<'a> {
         ensures ok { OnOk result (self.new ≡ self.old ++ One item.entry ∷ []) }
         ensures err { OnErr result (self.new ≡ self.old) }
     {
+        let is_entry = is_entry(&item);
+        if let Err(error) = self.entries.reserve() {
+            drop(item);
+            return Err(error);
+        }
         if self.are_single {
             self.stretches.push(Stretch::One(item))?;
+            let _counted = self.entries.push(is_entry);
             return Ok(());
         }
         if let Err(error) = self.starts.reserve(1) {
@@ -225,6 +238,7 @@ impl<'a> Stretches<'a> {
         }
         self.stretches.push(Stretch::One(item))?;
         let _room_was_reserved = self.starts.push(len);
+        let _counted = self.entries.push(is_entry);
         Ok(())
     }
 
@@ -242,8 +256,14 @@ impl<'a> Stretches<'a> {
         ensures ok { OnOk result (self.new ≡ insert self.old index (One item.entry)) }
         ensures err { OnErr result (self.new ≡ self.old) }
     {
+        let is_entry = is_entry(&item);
+        if let Err(error) = self.entries.reserve() {
+            drop(item);
+            return Err(error);
+        }
         if self.are_single {
             insert_stretch(&mut self.stretches, index, Stretch::One(item))?;
+            self.entries.insert(index, is_entry);
             return Ok(());
         }
         if let Err(error) = self.starts.reserve(1) {
@@ -253,6 +273,7 @@ impl<'a> Stretches<'a> {
         insert_stretch(&mut self.stretches, index, Stretch::One(item))?;
         let _room_was_reserved = self.starts.insert(index, at);
         raise_starts(&mut self.starts, index + 1);
+        self.entries.insert(index, is_entry);
         Ok(())
     }
 
@@ -281,12 +302,19 @@ impl<'a> Stretches<'a> {
             drop(back);
             return Err(error);
         }
+        if let Err(error) = self.entries.reserve() {
+            drop(front);
+            drop(back);
+            return Err(error);
+        }
+        let is_entry = is_entry_alone(&front);
         if let Err(error) = insert_stretch(&mut self.stretches, index, front) {
             drop(back);
             return Err(error);
         }
         put_stretch(&mut self.stretches, index + 1, back);
         let _room_was_reserved = self.starts.insert(index + 1, cut);
+        self.entries.insert(index, is_entry);
         Ok(())
     }
 
@@ -320,8 +348,10 @@ impl<'a> Stretches<'a> {
         ensures { items_in self.new
             ≡ items_in (take index self.old) ++ drop 1 (items_in (drop index self.old)) }
     {
+        let was_entry = is_entry_alone(&self.stretches[index]);
         if self.are_single {
             remove_stretch(&mut self.stretches, index);
+            self.entries.remove(index, was_entry);
             return;
         }
         let stretch = &self.stretches[index];
@@ -329,6 +359,7 @@ impl<'a> Stretches<'a> {
             remove_stretch(&mut self.stretches, index);
             let _start = self.starts.remove(index);
             lower_starts(&mut self.starts, index);
+            self.entries.remove(index, was_entry);
             return;
         }
         let Some((_first, rest)) = stretch.cut(1) else {
@@ -358,8 +389,11 @@ impl<'a> Stretches<'a> {
         ensures still { StandsAloneAt (items_in (drop index self.old)) 0 → IsOk result }
     {
         let stretch = &self.stretches[index];
+        let was_entry = is_entry_alone(stretch);
         if stretch.len() == 1 {
+            let is_entry = is_entry(&item);
             put_stretch(&mut self.stretches, index, Stretch::One(item));
+            self.entries.put(index, was_entry, is_entry);
             return Ok(());
         }
         let Some((_first, rest)) = stretch.cut(1) else {

@@ -18,15 +18,15 @@ insert-room_was_reserved-requires c =
     let size = ap length (c.self.invariant.1 c.if-self.false) ∙ starts_length 0 c.self.inside.stretches.items in
     let view = ap length c.self.view_is in
     let len = c.self.inside.starts.ok.0 in
-    omega (arith, c.in_default.ensures.len, len, size, view, c.requires.within)
+    omega (arith, c.in_default-reserve.ensures.len, len, size, view, c.requires.within)
 
 pub raise_starts-requires : goal.raise_starts-requires
 raise_starts-requires c i within =
     let ss = c.self.inside.stretches.items in
     let is =
     c.deref_mut.ensures.value
-    ∙ room_kept _ _ _ _ (c.insert-room_was_reserved.ensures.succeeds (omega (arith, c.in_default.ensures.ok))) c.insert-room_was_reserved.ensures.items
-    ∙ ap (λ xs. insert xs c.args.index c.args.at) c.in_default.ensures.items in
+    ∙ room_kept _ _ _ _ (c.insert-room_was_reserved.ensures.succeeds (omega (arith, c.in_default-reserve.ensures.ok))) c.insert-room_was_reserved.ensures.items
+    ∙ ap (λ xs. insert xs c.args.index c.args.at) c.in_default-reserve.ensures.items in
     let view = ap length c.self.view_is in
     let all = ap (λ xs. length (items_in xs)) c.self.view_is in
     let before = ap (λ xs. length (items_in (take c.args.index xs))) c.self.view_is in
@@ -37,8 +37,8 @@ pub invariant_of-self-2 : goal.invariant_of-self-2
 invariant_of-self-2 c =
     let ss = c.self.inside.stretches.items in
     let made =
-    room_kept _ _ _ _ (c.insert-room_was_reserved.ensures.succeeds (omega (arith, c.in_default.ensures.ok))) c.insert-room_was_reserved.ensures.items
-    ∙ ap (λ xs. insert xs c.args.index c.args.at) c.in_default.ensures.items in
+    room_kept _ _ _ _ (c.insert-room_was_reserved.ensures.succeeds (omega (arith, c.in_default-reserve.ensures.ok))) c.insert-room_was_reserved.ensures.items
+    ∙ ap (λ xs. insert xs c.args.index c.args.at) c.in_default-reserve.ensures.items in
     let view = ap length c.self.view_is in
     let before = ap (λ xs. length (items_in (take c.args.index xs))) c.self.view_is in
     starts_kept c.self.inside.are_single _ _ c.if-self.false (

@@ -16,8 +16,8 @@ pub invariant_of-self-2 : goal.invariant_of-self-2
 invariant_of-self-2 c =
     let view = ap (λ ss. length (items_in ss)) c.self.view_is in
     starts_kept c.self.inside.are_single _ _ c.if-self.false (
-    room_kept _ _ _ _ (c.push-room_was_reserved.ensures.succeeds (omega (arith, c.in_default.ensures.ok))) c.push-room_was_reserved.ensures.items
-    ∙ ap (λ xs. xs ++ c.args.len ∷ []) c.in_default.ensures.items
+    room_kept _ _ _ _ (c.push-room_was_reserved.ensures.succeeds (omega (arith, c.in_default-reserve.ensures.ok))) c.push-room_was_reserved.ensures.items
+    ∙ ap (λ xs. xs ++ c.args.len ∷ []) c.in_default-reserve.ensures.items
     ∙ starts_pushed c.args.len c.self.inside.starts.items c.self.inside.stretches.items (One c.args.item) (c.self.invariant.1 c.if-self.false) (omega (arith, view, c.requires))
     ∙ ap (starts_from 0) (sym c.in_ok-push-2.ensures.items)
     )
