@@ -1,7 +1,7 @@
 -- Items without the plain lines that say nothing of lenIV.
 use Rattle.std.proofs.Common.{◌≡◌, ℕ, cond, List, [], ◌∷◌, ◌++◌, filter, inl, inr, refl, ap, Ok, Err}
 use Rattle.std.specs.Prelude.{◌&&◌}
-use Rattle.std.specs.List.{list_all, list_any}
+use Rattle.std.specs.List.{list_all}
 use Rattle.std.specs.Option.{option_or}
 use Rattle.std.proofs.lemmas.Bool.{cases_Bool}
 use Rattle.t1_frac.specs.declared.fault.Code.TheVariants.{F23}
@@ -11,7 +11,6 @@ use Rattle.t1_parts.specs.declared.item.Item.{Item}
 use Rattle.t1_parts.specs.declared.item.Item.TheVariants.{Plain, Section, Subr, Glyph}
 use Rattle.t1_parts.specs.Counts.{raised_item}
 use Rattle.t1_parts.specs.Stretches.{line_says, stands_alone}
-use Rattle.t1_parts.specs.LenIV.{says_lead}
 use Rattle.t1_font.specs.Bodies.{bodies_check, body_check, glyph_among, glyph_in, subr_among, subr_in}
 use Rattle.t1_charstrings.specs.Raising.{is_raised_counted, raised_check, raised_text}
 use Rattle.t1_charstrings.specs.Sums.{section_line, section_lines_text}
@@ -93,14 +92,3 @@ glyph_alone f (Subr k ws closing ∷ items) = glyph_alone f items
 glyph_alone f (Glyph g ws closing ∷ items) = ap (option_or (glyph_in (Glyph g ws closing) f)) (glyph_alone f items)
 
 -- ---- lenIV
-
-pub say_alone : (items : List Item) → list_any says_lead (filter stands_alone items) ≡ list_any says_lead items
-unfolding stands_alone line_says
-say_alone [] = refl
-say_alone (Plain l ∷ items) = elim (cases_Bool (says_lead (Plain l))) [
-  | inl says ↦ rw says (rw says refl)
-  | inr silent ↦ rw silent (say_alone items)
-]
-say_alone (Section before n after ∷ items) = say_alone items
-say_alone (Subr n ws closing ∷ items) = say_alone items
-say_alone (Glyph g ws closing ∷ items) = say_alone items

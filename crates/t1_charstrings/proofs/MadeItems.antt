@@ -1,8 +1,7 @@
 -- The items of a source that edits make, in three parts.
-use Rattle.std.proofs.Common.{◌≡◌, ◌-◌, ◌+◌, ◌^◌, ◌<◌, min, max, ℕ, zero, suc, Bool, true, false, cond, List, [], ◌∷◌, ◌++◌, map, length, take, drop, append_assoc, length-append, add-one, refl, sym, ap, subst, ◌∙◌, Option, None, Some, Ok, Err, arith}
-use Rattle.std.specs.Prelude.{◌||◌, is_some, nat_eq}
+use Rattle.std.proofs.Common.{◌≡◌, ◌-◌, ◌+◌, ◌^◌, min, ℕ, true, false, cond, List, [], ◌∷◌, ◌++◌, map, length, append_assoc, length-append, refl, sym, ap, subst, ◌∙◌, None, Ok, Err, arith}
+use Rattle.std.specs.Prelude.{nat_eq}
 use Rattle.std.proofs.lemmas.Bool.{eqb-true, not-false}
-use Rattle.std.specs.List.{find, list_any, slice_set}
 use Rattle.std.specs.Option.{option_map, option_or}
 use Rattle.t1_frac.specs.declared.fault.Refusal.{Refusal}
 use Rattle.t1_frac.specs.declared.fault.Refusal.TheVariants as refusals
@@ -12,10 +11,9 @@ use Rattle.t1_frac.specs.declared.fault.Place.TheVariants.{Nowhere}
 use Rattle.t1_parts.specs.declared.item.Item.{Item}
 use Rattle.t1_parts.specs.declared.item.Item.TheVariants as items
 use Rattle.t1_parts.specs.Counts.{glyphs_needed, raised, raised_item, subrs_needed}
-use Rattle.t1_parts.specs.LenIV.{first_lead, lead, lead_among, said_lead}
-use Rattle.t1_parts.specs.Operator.{operator, operator_among, reads_strings}
+use Rattle.t1_parts.specs.LenIV.{first_lead, lead, lead_among}
+use Rattle.t1_parts.specs.Operator.{operator, operator_among}
 use Rattle.t1_parts.specs.SourceParts.{SourceParts}
-use Rattle.t1_source.specs.Leads.{says_lead}
 use Rattle.t1_source.specs.WellFormed.{IsWellFormed}
 use Rattle.t1_run.specs.Run.{Key, Subr, Glyph}
 use Rattle.t1_run.specs.RunKeys.{body_at}
@@ -43,65 +41,6 @@ use Rattle.t1_charstrings.proofs.Filed.{kept_len}
 use Rattle.t1_charstrings.proofs.Gathered.{or-map}
 use Rattle.t1_charstrings.proofs.Inserting.{counted-all, insert_front}
 use Rattle.t1_charstrings.proofs.Totals.{find-raised, named}
-
--- ---- an item put in the place of another, or taken out
-
-put-past : (is : List Item) (at : ℕ) (x : Item) → at < length is → take at is ++ (x ∷ drop (suc at) is) ≡ slice_set is at x
-put-past [] at x h = absurd (omega (arith, h))
-put-past (i ∷ is) zero x h = refl
-put-past (i ∷ is) (suc at) x h = ap (λ l. i ∷ l) (put-past is at x (omega (arith, h)))
-
-pub put-parts : (is : List Item) (at : ℕ) (x : Item) → at < length is → take at is ++ (x ∷ drop (at + 1) is) ≡ slice_set is at x
-put-parts is at x h = rw add-one (put-past is at x h)
-
--- ---- the first part that says something decides
-
-pub lead-first : (a b : List Item) → list_any says_lead a ≡ true → lead_among (a ++ b) ≡ lead_among a
-lead-first [] b h = absurd (cc)
-lead-first (i ∷ a) b h = by (said_lead i) refl h (lead-first a b) where
-  by : (r : Option (Option (List ℕ))) → said_lead i ≡ r → (is_some r || list_any says_lead a) ≡ true
-      → (list_any says_lead a ≡ true → lead_among (a ++ b) ≡ lead_among a) → lead_among (i ∷ (a ++ b)) ≡ lead_among (i ∷ a)
-  by (Some t) is h rest = rw is refl
-  by None is h rest = rw is (rest h)
-
-pub lead-later : (a b : List Item) → list_any says_lead a ≡ false → lead_among (a ++ b) ≡ lead_among b
-lead-later [] b h = refl
-lead-later (i ∷ a) b h = by (said_lead i) refl h (lead-later a b) where
-  by : (r : Option (Option (List ℕ))) → said_lead i ≡ r → (is_some r || list_any says_lead a) ≡ false
-      → (list_any says_lead a ≡ false → lead_among (a ++ b) ≡ lead_among b) → lead_among (i ∷ (a ++ b)) ≡ lead_among b
-  by (Some t) is h rest = absurd (cc)
-  by None is h rest = rw is (rest h)
-
-find-first : (test : Item → Bool) (a b : List Item) → list_any test a ≡ true → find test (a ++ b) ≡ find test a
-find-first test [] b h = absurd (cc)
-find-first test (i ∷ a) b h = by (test i) h (find-first test a b) where
-  by : (t : Bool) → (t || list_any test a) ≡ true → (list_any test a ≡ true → find test (a ++ b) ≡ find test a)
-      → cond t (Some i) (find test (a ++ b)) ≡ cond t (Some i) (find test a)
-  by true h rest = refl
-  by false h rest = rest h
-
-find-later : (test : Item → Bool) (a b : List Item) → list_any test a ≡ false → find test (a ++ b) ≡ find test b
-find-later test [] b h = refl
-find-later test (i ∷ a) b h = by (test i) h (find-later test a b) where
-  by : (t : Bool) → (t || list_any test a) ≡ false → (list_any test a ≡ false → find test (a ++ b) ≡ find test b)
-      → cond t (Some i) (find test (a ++ b)) ≡ find test b
-  by true h rest = absurd (cc)
-  by false h rest = rest h
-
-pub operator-first : (a b : List Item) → list_any reads_strings a ≡ true → operator_among (a ++ b) ≡ operator_among a
-operator-first a b h = ap named (find-first reads_strings a b h)
-
-pub operator-later : (a b : List Item) → list_any reads_strings a ≡ false → operator_among (a ++ b) ≡ operator_among b
-operator-later a b h = ap named (find-later reads_strings a b h)
-
--- ---- counts
-
-pub subrs-both : (a b : List Item) → subrs_needed (a ++ b) ≡ max (subrs_needed a) (subrs_needed b)
-subrs-both [] b = omega arith
-subrs-both (items.Plain l ∷ a) b = subrs-both a b
-subrs-both (items.Section before n after ∷ a) b = subrs-both a b
-subrs-both (items.Subr n ws closing ∷ a) b = omega (arith, subrs-both a b)
-subrs-both (items.Glyph g ws closing ∷ a) b = subrs-both a b
 
 -- ---- lengths
 

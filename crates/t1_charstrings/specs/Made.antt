@@ -12,13 +12,8 @@ use Rattle.t1_font.specs.Assembly.{file_check}
 use Rattle.t1_font.specs.Lengths.{IsPrivateLen}
 use Rattle.t1_charstrings.specs.declared.made.Made.{Made}
 use Rattle.t1_charstrings.specs.declared.made.Made.TheVariants as made
-use Rattle.t1_charstrings.specs.declared.made_items.MadeItems.{MadeItems}
 use Rattle.t1_charstrings.specs.Ready.{is_entry}
 use Rattle.t1_charstrings.specs.Sums.{item_at}
-
--- word: items in three parts
-abbrev pub made_items : MadeItems → List Item
-made_items items = items.before ++ (items.put ++ items.after)
 
 -- word, edits: the source after a change, whatever the pairs
 abbrev pub made_after : Change → SourceParts → SourceParts

@@ -1,35 +1,37 @@
 //! All charstrings of a source that edits make, encrypted anew.
 ghost use Rattle.std.specs.Prelude.{◌≡◌, IfOk};
 ghost use Rattle.t1_frac.specs.Outcome.{Gives};
+ghost use Rattle.t1_source.specs.EditedItems.{edited_items};
 ghost use Rattle.t1_source.specs.WellFormed.{IsWellFormed};
 ghost use Rattle.t1_parts.specs.Counts.{raised};
 ghost use Rattle.t1_font.specs.Assembly.{file_check};
 ghost use Rattle.t1_font.specs.Lengths.{IsPrivateLen};
 ghost use Rattle.t1_charstrings.specs.Kept.{AreEncrypted};
-ghost use Rattle.t1_charstrings.specs.Made.{made_items, made_of, IsMadeByEdits};
+ghost use Rattle.t1_charstrings.specs.Made.{made_of, IsMadeByEdits};
 ghost use Rattle.t1_charstrings.specs.Ready.{IsReadyLines};
 
+use crate::encrypted_items::{charstrings_of, check_raised_parts, needed_by, raised_len};
 use crate::entries::Charstrings;
 use crate::made::Made;
-use crate::made_items::MadeItems;
 use crate::settling::{ReadyCharstrings, ReadyLines};
 use std::alloc::Global;
 use t1_font::check_parts;
 use t1_frac::Refusal;
+use t1_source::EditedItems;
 
 /// How long the private text of a source that edits make is, whose items and charstrings these are;
 /// or F23 where a part of its PFB file is too long or a raised count has too many digits.
-fn len_anew(made: &Made, items: &MadeItems, charstrings: &Charstrings) -> Result<usize, Refusal>
+fn len_anew(made: &Made, items: &EditedItems, charstrings: &Charstrings) -> Result<usize, Refusal>
     requires well { IsWellFormed (made_of made.now) }
-    requires items { raised (made_items items.now) ≡ (made_of made.now).items }
+    requires items { raised (edited_items items.now) ≡ (made_of made.now).items }
     requires kept { AreEncrypted (made_of made.now) charstrings.now }
     ensures judged { Gives (λ _. tt) result (file_check (made_of made.now)) }
     ensures len { IfOk result (IsPrivateLen (made_of made.now)) }
 {
-    let needed = items.needed()?;
-    let len = items.raised_len(charstrings, &needed);
+    let needed = needed_by(items)?;
+    let len = raised_len(charstrings, items, &needed);
     check_parts(made.clear(), len, made.tail())?;
-    items.check_raised(&needed)?;
+    check_raised_parts(items, &needed)?;
     Ok(len)
 }
 
@@ -43,7 +45,7 @@ pub(crate) fn prepare_anew(alloc: Global, made: &Made) -> Result<ReadyLines, Ref
     ensures ready { (c : Charstrings) → IfOk result (IsReadyLines (made_of made.now) c) }
 {
     let items = made.items();
-    let charstrings = items.charstrings(alloc)?;
+    let charstrings = charstrings_of(alloc, &items)?;
     let len = len_anew(made, &items, &charstrings)?;
     Ok(ReadyLines {
         charstrings: ReadyCharstrings::All(charstrings),

@@ -3,15 +3,15 @@ ghost use Rattle.std.specs.Prelude.{◌≡◌, ◌<◌, [], length};
 ghost use Rattle.t1_parts.specs.Counts.{raised};
 ghost use Rattle.t1_parts.specs.ItemRefs.{item_of};
 ghost use Rattle.t1_source.specs.Changes.{changed};
-ghost use Rattle.t1_charstrings.specs.Made.{is_entry_changed, made_items, made_of, may_set_lead};
+ghost use Rattle.t1_source.specs.EditedItems.{edited_items};
+ghost use Rattle.t1_charstrings.specs.Made.{is_entry_changed, made_of, may_set_lead};
 ghost use Rattle.t1_charstrings.specs.Made.{IsFor, IsMadeByEdits};
 ghost use Rattle.t1_charstrings.specs.Ready.{is_entry};
 ghost use Rattle.t1_charstrings.specs.Sums.{item_at};
 
-use crate::made_items::MadeItems;
 use t1_frac::Bytes;
 use t1_parts::ItemRef;
-use t1_source::{Change, Item, Source};
+use t1_source::{Change, EditedItems, Item, Source};
 
 /// How the source is known that edits make of another one.
 #[derive(Drop)]
@@ -84,23 +84,6 @@ fn clear_after<'e>(source: &'e Source, change: &'e Change) -> &'e [Bytes]
     }
 }
 
-/// The items after a change, before their counts are raised.
-fn items_after<'e, 'a>(source: &'e Source<'a>, change: &'e Change<'a>) -> MadeItems<'e, 'a>
-    requires { IsFor change.now source.now }
-    ensures { raised (made_items result) ≡ (changed change.now source.now []).0.items }
-{
-    let items = source.items();
-    match change {
-        Change::PutItem(at, item) => MadeItems::put(items, *at, item),
-        Change::InsertItem(at, item) => MadeItems::inserted(items, *at, item),
-        Change::RemoveItem(at) => MadeItems::removed(items, *at),
-        Change::PutClear(_) => MadeItems::all(items),
-        Change::PutPair(_, _) => MadeItems::all(items),
-        Change::InsertPair(_, _) => MadeItems::all(items),
-        Change::RemovePair(_) => MadeItems::all(items),
-    }
-}
-
 impl<'e, 'a> Made<'e, 'a> {
     /// Whether the edits may have set lenIV. Of one edit it is known by the kind of the item that
     /// it changes.
@@ -125,13 +108,13 @@ impl<'e, 'a> Made<'e, 'a> {
     }
 
     /// The items of the private part, before their counts are raised.
-    pub(crate) fn items(&self) -> MadeItems<'_, 'a>
+    pub(crate) fn items(&self) -> EditedItems<'_, 'a>
         requires { IsMadeByEdits self.now }
-        ensures { raised (made_items result) ≡ (made_of self.now).items }
+        ensures { raised (edited_items result) ≡ (made_of self.now).items }
     {
         match self {
-            Made::Edit { source, change } => items_after(source, change),
-            Made::Batch { source: _, made } => MadeItems::all(made.items()),
+            Made::Edit { source, change } => EditedItems::after(source.items(), change),
+            Made::Batch { source: _, made } => EditedItems::all(made.items()),
         }
     }
 

@@ -37,8 +37,8 @@ fn kept_from(held: &Held, edit: &Edit) -> Option<usize> {
 }
 
 /// Before which place the entry is to be looked for that an edit replaces or takes out, among so
-/// many items: from it on stand the entries that follow it, and the last lines of the private part.
-/// Time alone hangs on it.
+/// many items, as if all of them were entries: from it on stand those that follow it. Time alone
+/// hangs on it.
 fn place_near(held: &Held, len: usize, edit: &Edit) -> usize {
     match kept_from(held, edit) {
         Some(from) => len - from.saturating_sub(1).min(len),

@@ -1,31 +1,30 @@
 -- The names of the glyphs after a change.
-use Rattle.std.proofs.Common.{◌≡◌, ◌<◌, ℕ, zero, suc, List, [], ◌∷◌, ◌++◌, append-nil, append_assoc, length, take, drop, refl, sym, ◌∙◌, ap, arith}
-use Rattle.std.specs.List.{remove, slice_set}
+use Rattle.std.proofs.Common.{◌≡◌, List, [], ◌++◌, refl, sym, ◌∙◌, ap}
+use Rattle.std.specs.List.{insert, remove, slice_set}
+use Rattle.std.proofs.lemmas.List.Concat.{flat_map-append}
 use Rattle.t1_parts.specs.declared.item.Item.{Item}
 use Rattle.t1_parts.specs.Counts.{raised, subrs_needed, glyphs_needed}
+use Rattle.t1_parts.specs.SourceParts.{SourceParts}
+use Rattle.t1_source.specs.declared.editing.change.Change.{Change}
+use Rattle.t1_source.specs.declared.editing.change.Change.TheVariants as changes
+use Rattle.t1_source.specs.Changes.{changed}
+use Rattle.t1_source.specs.EditedItems.{items_after}
 use Rattle.t1_font.specs.Glyphs.{glyph_names, name_in}
 use Rattle.t1_cache.proofs.Middles.{names-raised}
 
--- one after the other
-one-name : (i : Item) → glyph_names (i ∷ []) ≡ name_in i
-one-name i = append-nil (name_in i)
-
-pub put-names : (items : List Item) (at : ℕ) (x : Item) → at < length items
-    → glyph_names (slice_set items at x) ≡ glyph_names (take at items) ++ (glyph_names (x ∷ []) ++ glyph_names (drop 1 (drop at items)))
-put-names [] at x h = absurd (omega (arith, h))
-put-names (i ∷ items) zero x h = ap (λ l. l ++ glyph_names items) (sym (one-name x))
-put-names (i ∷ items) (suc at) x h =
-    ap (λ l. name_in i ++ l) (put-names items at x (omega (arith, h)))
-    ∙ sym (append_assoc (name_in i) (glyph_names (take at items)) (glyph_names (x ∷ []) ++ glyph_names (drop 1 (drop at items))))
-
-pub remove-names : (items : List Item) (at : ℕ) → at < length items
-    → glyph_names (remove items at) ≡ glyph_names (take at items) ++ glyph_names (drop 1 (drop at items))
-remove-names [] at h = absurd (omega (arith, h))
-remove-names (i ∷ items) zero h = refl
-remove-names (i ∷ items) (suc at) h =
-    ap (λ l. name_in i ++ l) (remove-names items at (omega (arith, h)))
-    ∙ sym (append_assoc (name_in i) (glyph_names (take at items)) (glyph_names (drop 1 (drop at items))))
+-- those of three lists, one after another
+pub three-names : (a b c : List Item) → glyph_names a ++ (glyph_names b ++ glyph_names c) ≡ glyph_names (a ++ (b ++ c))
+three-names a b c = sym (flat_map-append name_in a (b ++ c) ∙ ap (λ l. glyph_names a ++ l) (flat_map-append name_in b c))
 
 -- counts that are raised have no names
-pub raised-names : (items : List Item) → glyph_names (raised items) ≡ glyph_names items
+raised-names : (items : List Item) → glyph_names (raised items) ≡ glyph_names items
 raised-names items = names-raised (subrs_needed items) (glyphs_needed items) items
+
+pub names-after : (change : Change) (s : SourceParts) → glyph_names (items_after change s.items) ≡ glyph_names (changed change s []).0.items
+names-after (changes.PutItem at item) s = sym (raised-names (slice_set s.items at item))
+names-after (changes.InsertItem at item) s = sym (raised-names (insert s.items at item))
+names-after (changes.RemoveItem at) s = sym (raised-names (remove s.items at))
+names-after (changes.PutClear lines) s = refl
+names-after (changes.PutPair at pair) s = refl
+names-after (changes.InsertPair at pair) s = refl
+names-after (changes.RemovePair at) s = refl

@@ -3,6 +3,7 @@ pub mod ChangeLaws
 pub mod CodeLaws
 pub mod CountedLaws
 pub mod EditedCountLaws
+pub mod EditedItemsLaws
 pub mod EditedLeadLaws
 pub mod EditingRows
 pub mod EntryFoundLaws

@@ -3,7 +3,8 @@
 /// What is known of the entry that an edit names before it is looked for.
 #[derive(Clone, Copy)]
 pub enum Hint {
-    /// It may be one of the few items before this place.
+    /// It may be one of the few items before this place, which is told as if all items were
+    /// entries: by how many entries stand from it on.
     Near(usize),
     /// It is a glyph of a name that no glyph has.
     NewGlyph,

@@ -2,6 +2,7 @@
 //! put in place.
 
 mod change;
+mod edited_items;
 mod entries;
 mod glyphs;
 mod hint;
@@ -27,6 +28,7 @@ use crate::editing::slots::{encoding_code, unencoding_code};
 use crate::editing::subrs::{adding_subr, removing_subr, replacing_subr};
 use crate::source::Source;
 pub use change::Change;
+pub use edited_items::EditedItems;
 pub use hint::Hint;
 pub use rules::body_words;
 use std::alloc::AllocError;

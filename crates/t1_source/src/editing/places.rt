@@ -8,8 +8,8 @@ ghost use Rattle.t1_source.specs.Editing.{through_last};
 use crate::source::Source;
 use t1_parts::{EntryKey, ItemKind, Items};
 
-/// Where the entry of a key stands. It is looked for first among the few items before a place; in a
-/// source that is kept no other item has its key.
+/// Where the entry of a key stands. It is looked for first among the few items before a place that
+/// a hint tells; in a source that is kept no other item has its key.
 pub fn entry_at(source: &Source, near: usize, key: &EntryKey) -> Option<usize>
     ensures value { result ≡ position (is_entry_of key.now) source.now.items }
     ensures within { IfSome result (λ at. at < length source.now.items) }

@@ -1,10 +1,10 @@
 use Rattle.std.proofs.Common.{◌++◌, arith}
 use Rattle.t1_charstrings.proofs.MadeItems.{text-parts}
-use Rattle.t1_charstrings.proofs.made_items.MadeItems.raised_len.Goals as goal
+use Rattle.t1_charstrings.proofs.encrypted_items.raised_len.Goals as goal
 
 pub returns : goal.returns
 returns c =
-    let s = c.args.self.now in
+    let s = c.args.items.now in
     let n = c.args.needed.now in
     let o = c.operator-operator.result.now in
     rw (← c.operator-operator.ensures)

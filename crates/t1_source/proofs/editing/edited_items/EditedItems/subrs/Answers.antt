@@ -1,7 +1,7 @@
 use Rattle.std.proofs.Common.{◌++◌, ap, arith}
 use Rattle.t1_parts.specs.Counts.{subrs_needed}
-use Rattle.t1_charstrings.proofs.MadeItems.{subrs-both}
-use Rattle.t1_charstrings.proofs.made_items.MadeItems.subrs.Goals as goal
+use Rattle.t1_source.proofs.EditedItemsLaws.{subrs-both}
+use Rattle.t1_source.proofs.editing.edited_items.EditedItems.subrs.Goals as goal
 
 pub returns : goal.returns
 returns c =

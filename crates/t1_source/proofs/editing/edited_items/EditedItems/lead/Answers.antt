@@ -1,7 +1,7 @@
 use Rattle.std.proofs.Common.{◌++◌, ◌∙◌, ap, sym}
 use Rattle.t1_parts.specs.LenIV.{lead_among}
-use Rattle.t1_charstrings.proofs.MadeItems.{lead-first, lead-later}
-use Rattle.t1_charstrings.proofs.made_items.MadeItems.lead.Goals as goal
+use Rattle.t1_source.proofs.EditedItemsLaws.{lead-first, lead-later}
+use Rattle.t1_source.proofs.editing.edited_items.EditedItems.lead.Goals as goal
 
 pub returns-then-say_lead : goal.returns-then-say_lead
 returns-then-say_lead c =

@@ -1,7 +1,7 @@
 use Rattle.std.proofs.Common.{◌++◌, ◌∙◌, ap, sym}
 use Rattle.t1_parts.specs.Operator.{operator_among}
-use Rattle.t1_charstrings.proofs.MadeItems.{operator-first, operator-later}
-use Rattle.t1_charstrings.proofs.made_items.MadeItems.operator.Goals as goal
+use Rattle.t1_source.proofs.EditedItemsLaws.{operator-first, operator-later}
+use Rattle.t1_source.proofs.editing.edited_items.EditedItems.operator.Goals as goal
 
 pub returns-then-read_strings : goal.returns-then-read_strings
 returns-then-read_strings c =

@@ -3,7 +3,7 @@ use Rattle.std.proofs.lemmas.Iterator.Consumers.{YieldsList-from_first}
 use Rattle.std.proofs.lemmas.Iterator.Search.{any_from_yields_List}
 use Rattle.t1_parts.specs.ItemRefs.{item_of}
 use Rattle.t1_parts.specs.Operator.{reads_strings}
-use Rattle.t1_charstrings.proofs.made_items.read_strings.Goals as goal
+use Rattle.t1_source.proofs.editing.edited_items.read_strings.Goals as goal
 
 pub returns : goal.returns
 returns c =

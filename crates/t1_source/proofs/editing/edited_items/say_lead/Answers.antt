@@ -3,8 +3,8 @@ use Rattle.std.proofs.lemmas.Iterator.Consumers.{YieldsList-from_first}
 use Rattle.std.proofs.lemmas.Iterator.Search.{any_from_yields_List}
 use Rattle.t1_parts.specs.Stretches.{stands_alone}
 use Rattle.t1_parts.specs.LenIV.{says_lead}
-use Rattle.t1_charstrings.proofs.AloneLaws.{say_alone}
-use Rattle.t1_charstrings.proofs.made_items.say_lead.Goals as goal
+use Rattle.t1_source.proofs.EditedItemsLaws.{say_alone}
+use Rattle.t1_source.proofs.editing.edited_items.say_lead.Goals as goal
 
 pub returns : goal.returns
 returns c =
