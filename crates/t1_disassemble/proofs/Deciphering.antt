@@ -29,13 +29,13 @@ pub deciphered-append : (key : ℕ) (xs ys : List ℕ) → deciphered key (xs ++
 deciphered-append key [] ys = refl
 deciphered-append key (x ∷ xs) ys = ap (λ l. bit_xor x (key / 256) ∷ l) (deciphered-append (next_key key x) xs ys)
 
--- ---- the next key, of the one that stands there and of the one before it
+-- ---- the next key, and the one after it
 
-pub key_from : (key next c : ℕ) → next ≡ (key * 52845 + 33965) % 65536 → (next + (c * 52845 + 54290)) % 65536 ≡ next_key key c
-key_from key next c h = omega (arith, h)
+pub key_from : (key c : ℕ) → ((key + c) * 52845 + 22719) % 65536 ≡ next_key key c
+key_from key c = omega arith
 
-pub next_from : (key c : ℕ) → (key + c) * 39529 % 65536 ≡ (next_key key c * 52845 + 33965) % 65536
-next_from key c = omega arith
+pub key_past : (key c d : ℕ) → ((key + c) * 39529 + (d * 52845 + 54290)) % 65536 ≡ next_key (next_key key c) d
+key_past key c d = omega arith
 
 drop_zeros : (lead : ℕ) (plain : List ℕ) → drop lead (replicate lead 0 ++ plain) ≡ plain
 drop_zeros zero plain = refl

@@ -1,13 +1,13 @@
 -- Words that are known by the byte that they begin with.
 use Rattle.std.proofs.Common.{◌≡◌, ℕ, ℤ, suc, pos, Bool, codes, true, false, ◌+◌, ◌-ℤ◌, ◌==◌, ◌≤◌, ◌<◌, if◌then◌else◌, List, [], ◌∷◌, ◌++◌, length, take, Result, Ok, Some, FitsSigned, w32, nat_eq, refl, sym, ap, subst, ◌∙◌, append_assoc, append-nil, arith, lit<}
 use Rattle.std.proofs.lemmas.Bool.{lt-ltb, le-ltb}
-use Rattle.std.proofs.lemmas.List.{take-take}
+use Rattle.std.proofs.lemmas.List.{take-take, length-take-le}
 use Rattle.std.specs.Fmt.{signed_decimal}
 use Rattle.std.specs.Map.{lookup}
 use Rattle.t1_frac.specs.Numbers.{is_number_word}
 use Rattle.t1_frac.specs.Outcome.{◌>>=◌}
 use Rattle.t1_disassemble.specs.declared.fault.FontCode.{FontCode}
-use Rattle.t1_disassemble.specs.KnownWords.{KnownText, IsKnown}
+use Rattle.t1_disassemble.specs.KnownWords.{KnownText, IsKnown, HasBlank}
 use Rattle.t1_disassemble.specs.Words.{one_byte_words, found_word, word_at}
 use Rattle.t1_disassemble.specs.WordsOnto.{put_first, with_word}
 use Rattle.t1_disassemble.proofs.Reading.{number_is_word}
@@ -51,7 +51,7 @@ command_known v w small alone found operator text rest is_open =
 pub known_as : (v : ℕ) (is_number : Bool) (text other : List ℕ) → other ≡ text → IsKnown (record { first = v; text = text; is_number = is_number }) → IsKnown (record { first = v; text = other; is_number = is_number })
 known_as v is_number text other e known = subst (λ t. IsKnown (record { first = v; text = t; is_number = is_number })) (sym e) known
 
-pub endchar_known : IsKnown (record { first = 14; text = take 8 (codes "endchar\n        "); is_number = false })
+pub endchar_known : IsKnown (record { first = 14; text = take 8 (codes "endchar\n\t       "); is_number = false })
 unfolding is_number_word
 endchar_known = command_known 14 (codes "endchar") (lit< tt) refl refl refl
 
@@ -75,3 +75,19 @@ front_put len most count old new more text few here size e =
     ∙ ap (take (len + count)) (e ∙ ap (λ l. l ++ more) here)
     ∙ ap (λ k. take (k + count) (text ++ more)) (sym size)
     ∙ seam text more count
+
+-- ---- the blank before the next word
+
+front_kept : (len most count : ℕ) (old new more : List ℕ) → count ≤ most → len ≤ length old → take (len + most) new ≡ take len old ++ more → take (len + count) new ≡ take len old ++ take count more
+front_kept len most count old new more few within e = front_put len most count old new more (take len old) few refl (length-take-le len old within) e
+
+-- one that is put with a word
+pub blank_kept : (len most count : ℕ) (old new more : List ℕ) (is_open : Bool) → count < most → len ≤ length old → take (len + most) new ≡ take len old ++ more → HasBlank count is_open more → HasBlank (len + count) is_open new
+blank_kept len most count old new more is_open few within e blank =
+    let last : List ℕ = (if is_open then 32 else 9) ∷ [] in
+    let same : len + count + 1 ≡ len + (count + 1) = omega arith in
+    ap (λ n. take n new) same
+    ∙ front_kept len most (count + 1) old new more (omega (arith, few)) within e
+    ∙ ap (λ l. take len old ++ l) blank
+    ∙ sym (append_assoc (take len old) (take count more) last)
+    ∙ ap (λ l. l ++ last) (sym (front_kept len most count old new more (omega (arith, few)) within e))

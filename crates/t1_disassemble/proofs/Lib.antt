@@ -1,5 +1,6 @@
 pub mod AlikeLaws
 pub mod BinaryLaws
+pub mod BorderLaws
 pub mod ClearLaws
 pub mod CutPieces
 pub mod CutPlaces

@@ -160,3 +160,10 @@ behind_ok text b is_open v rest whole x h e =
 pub behind_err : (text b : List ℕ) (is_open : Bool) (v : ℕ) (rest whole : List ℕ) (code : FontCode) → put_first b is_open v rest ≡ Err code → whole ≡ text ++ b → put_first whole is_open v rest ≡ Err code
 behind_err text b is_open v rest whole code h e =
     ap (λ t. put_first t is_open v rest) e ∙ put_behind text b is_open v rest ∙ ap (λ (r : Result (List ℕ × Bool × List ℕ) FontCode). r >>= λ y. Ok (behind text y)) h
+
+-- the words that are left after one that is put, behind any text
+pub known_more : (text old new left rest : List ℕ) (is_open opened : Bool) (v : ℕ) → left ≡ v ∷ rest → put_first old is_open v rest ≡ Ok (new, opened, rest)
+    → words_onto (text ++ new) opened (words_of rest) ≡ words_onto (text ++ old) is_open (words_of left)
+known_more text old new left rest is_open opened v e h =
+    sym (ap (λ l. words_onto (text ++ old) is_open (words_of l)) e ∙ push_more (text ++ old) is_open v rest
+    ∙ ap (λ (r : Result (List ℕ × Bool × List ℕ) FontCode). r >>= λ x. words_onto x.0 x.1 (words_of x.2)) (behind_ok text old is_open v rest (text ++ old) (new, opened, rest) h refl))

@@ -1,7 +1,7 @@
 //! The words of charstrings.
 ghost use Rattle.std.specs.Prelude.{◌≡◌, [], ◌+◌, ◌++◌, ◌≤◌, length, OnOk, IfOk, IfSome};
 ghost use Rattle.std.specs.Prelude.{MatchResult, OnErr, if◌then◌else◌, nat_lt, take};
-ghost use Rattle.std.specs.Prelude.{Ok, Err, true, false, option_map, nat_eq};
+ghost use Rattle.std.specs.Prelude.{Ok, Err, List, true, false, option_map, nat_eq, ◌∷◌, ℕ};
 ghost use Rattle.std.specs.Fmt.{signed_decimal};
 ghost use Rattle.std.specs.Map.{lookup};
 ghost use Rattle.t1_frac.specs.Numbers.{is_number_word};
@@ -305,6 +305,45 @@ fn push_first<'a>(
     Ok(put_word(known, bytes, left, is_open, first, rest)?)
 }
 
+/// Puts the words that some bytes begin with, as long as each is known by its first byte and there
+/// is room for one more, after words that wait. Answers how many bytes wait then, whether the last
+/// word's line is still open, and the bytes that are left.
+#[inline(always)]
+fn put_known<'a>(
+    known: &[KnownWord],
+    bytes: &mut [u8; ROOM],
+    len: usize,
+    is_open: bool,
+    code: &'a [u8],
+) -> (usize, bool, &'a [u8])
+    requires { len ≤ 256 }
+    ensures value { (text : List ℕ)
+        → words_onto (text ++ take result.0 bytes.new) result.1 (words_of result.2.now)
+        ≡ words_onto (text ++ take len bytes.old) is_open (words_of code.now) }
+    ensures within { result.0 ≤ 256 }
+    ensures shorter { length result.2.now ≤ length code.now }
+    ensures size { length bytes.new ≡ 256 }
+{
+    if len == ROOM {
+        return (len, is_open, code);
+    }
+    let mut end = len;
+    let mut opened = is_open;
+    let mut rest = code;
+    let _blank = put_blank(bytes, len, is_open);
+    while end <= ROOM - MOST_OF_A_WORD {
+        let Some((first, after)) = rest.split_first() else {
+            return (end, opened, rest);
+        };
+        let Some(word) = known_word(known, *first) else {
+            return (end, opened, rest);
+        };
+        (end, opened) = word.put_on(bytes, end);
+        rest = after;
+    }
+    (end, opened, rest)
+}
+
 /// Adds the lines of a charstring's words. At a fault and where memory runs out some of them may
 /// stand there.
 #[tactic(auto, using(crate::proofs::Reading::push_more, crate::proofs::Reading::push_none))]
@@ -324,9 +363,7 @@ pub(crate) fn push_words(
     let mut rest = code;
     while let Some((first, after)) = rest.split_first() {
         let (end, opened, left) = push_first(known, text, &mut bytes, len, is_open, *first, after)?;
-        len = end;
-        is_open = opened;
-        rest = left;
+        (len, is_open, rest) = put_known(known, &mut bytes, end, opened, left);
     }
     text.extend_from_slice(bytes.split_at(len).0)?;
     end_line(text, is_open)?;

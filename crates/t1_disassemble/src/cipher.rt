@@ -1,5 +1,6 @@
 //! Charstring and eexec encryption undone.
-ghost use Rattle.std.specs.Prelude.{◌≡◌, ◌/◌, ℕ, List, length, bit_xor, OnOk};
+ghost use Rattle.std.specs.Prelude.{◌≡◌, ◌<◌, ◌≤◌, ◌+◌, ◌/◌, ◌++◌, ℕ, List, length, take, drop};
+ghost use Rattle.std.specs.Prelude.{bit_xor, OnOk};
 ghost use Rattle.t1_code.specs.Cipher.{next_key, cipher};
 ghost use Rattle.t1_disassemble.specs.Decipher.{deciphered};
 
@@ -14,23 +15,17 @@ const EEXEC_KEY: u16 = 55_665;
 
 /// Decrypts bytes one after another, with a key that each cipher byte changes. Contracts see the
 /// key.
-///
-/// What a key adds to the next one is kept beside it, less 54,290. It follows from the key before
-/// it, so that two bytes wait for one product.
 #[derive(Drop)]
 struct Cipher {
     key: u16,
-    next: u16,
 }
 
 impl Model for Cipher {
-    ghost use Rattle.std.specs.Prelude.{◌≡◌, ◌+◌, ◌*◌, ◌%◌, ℕ};
+    ghost use Rattle.std.specs.Prelude.{ℕ};
 
     ghost Value = { ℕ };
 
     ghost view = { λ d. d.key };
-
-    ghost invariant = { λ d. d.next ≡ (d.key * 52845 + 33965) % 65536 };
 }
 
 impl Cipher {
@@ -38,31 +33,64 @@ impl Cipher {
     fn new(key: u16) -> Cipher
         ensures { result ≡ key }
     {
-        Cipher {
-            key,
-            next: ((u32::from(key) * 52_845 + 33_965) % 65_536) as u16,
-        }
+        Cipher { key }
     }
 
-    /// The plain byte of a cipher byte. The key's factor is squared here: the next key adds
-    /// `(key + cipher) * 52_845 * 52_845 + 22_719 * 52_846` to the one after it, of which the low
-    /// 16 bits count. Those of the second product are 54,290, which isn't added to what is waited
-    /// for.
+    /// The plain byte of a cipher byte.
     #[inline(always)]
-    #[tactic(auto, using(crate::proofs::Deciphering::key_from, crate::proofs::Deciphering::next_from))]
+    #[tactic(auto, using(crate::proofs::Deciphering::key_from))]
     fn byte(&mut self, cipher: u8) -> u8
         ensures byte { result ≡ bit_xor cipher (self.old / 256) }
         ensures key { self.new ≡ next_key self.old cipher }
     {
         let code = u32::from(cipher);
         let plain = cipher ^ (self.key / 256) as u8;
-        let key = (u32::from(self.next) + (code * 52_845 + 54_290)) % 65_536;
-        let next = (u32::from(self.key) + code) * 39_529 % 65_536;
-        *self = Cipher {
-            key: key as u16,
-            next: next as u16,
-        };
+        let key = ((u32::from(self.key) + code) * 52_845 + 22_719) % 65_536;
+        self.key = key as u16;
         plain
+    }
+
+    /// The plain bytes of two cipher bytes. The key after the second is made of the one before the
+    /// first, with the key's factor squared, so that two bytes wait for one product.
+    #[inline(always)]
+    #[tactic(auto, using(crate::proofs::Deciphering::key_from, crate::proofs::Deciphering::key_past))]
+    fn pair(&mut self, first: u8, second: u8) -> (u8, u8)
+        ensures first { result.0 ≡ bit_xor first (self.old / 256) }
+        ensures second { result.1 ≡ bit_xor second (next_key self.old first / 256) }
+        ensures key { self.new ≡ next_key (next_key self.old first) second }
+    {
+        let sum = u32::from(self.key) + u32::from(first);
+        let middle = (sum * 52_845 + 22_719) % 65_536;
+        let last = (sum * 39_529 + (u32::from(second) * 52_845 + 54_290)) % 65_536;
+        let pair = (
+            first ^ (self.key / 256) as u8,
+            second ^ (middle / 256) as u8,
+        );
+        self.key = last as u16;
+        pair
+    }
+
+    /// Puts the plain bytes in the place of the two cipher bytes that stand here.
+    #[inline(always)]
+    fn put_pair(&mut self, bytes: &mut [u8], at: usize)
+        requires { at + 2 ≤ length bytes.now }
+        ensures bytes { take (at + 2) bytes.new ++ deciphered self.new (drop (at + 2) bytes.new)
+            ≡ take at bytes.old ++ deciphered self.old (drop at bytes.old) }
+        ensures len { length bytes.new ≡ length bytes.old }
+    {
+        let (first, second) = self.pair(bytes[at], bytes[at + 1]);
+        bytes[at] = first;
+        bytes[at + 1] = second;
+    }
+
+    /// Puts the plain byte in the place of the cipher byte that stands here.
+    fn put_one(&mut self, bytes: &mut [u8], at: usize)
+        requires { at < length bytes.now }
+        ensures bytes { take (at + 1) bytes.new ++ deciphered self.new (drop (at + 1) bytes.new)
+            ≡ take at bytes.old ++ deciphered self.old (drop at bytes.old) }
+        ensures len { length bytes.new ≡ length bytes.old }
+    {
+        bytes[at] = self.byte(bytes[at]);
     }
 
     /// The cipher byte of a plain byte.
@@ -83,8 +111,13 @@ fn decipher(key: u16, bytes: &mut [u8])
     ensures len { length bytes.new ≡ length bytes.old }
 {
     let mut state = Cipher::new(key);
-    for byte in bytes.iter_mut() {
-        *byte = state.byte(*byte);
+    let mut at = 0;
+    while at + 1 < bytes.len() {
+        state.put_pair(bytes, at);
+        at += 2;
+    }
+    if at < bytes.len() {
+        state.put_one(bytes, at);
     }
 }
 

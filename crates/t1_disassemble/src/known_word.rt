@@ -1,9 +1,9 @@
 //! Words of charstrings that are known by the byte that they begin with.
-ghost use Rattle.std.specs.Prelude.{◌≡◌, ◌<◌, ◌≤◌, ◌+◌, ◌==◌, ◌-ℤ◌, pos, true, false, ℕ};
+ghost use Rattle.std.specs.Prelude.{◌≡◌, ◌<◌, ◌≤◌, ◌+◌, ◌==◌, ◌-ℤ◌, pos, true, false, ℕ, Bool};
 ghost use Rattle.std.specs.Prelude.{length, take, nat_eq, IfSome, List, Some, Ok};
 ghost use Rattle.std.specs.Map.{lookup};
 ghost use Rattle.t1_frac.specs.Numbers.{is_number_word};
-ghost use Rattle.t1_disassemble.specs.KnownWords.{IsKnown};
+ghost use Rattle.t1_disassemble.specs.KnownWords.{IsKnown, HasBlank};
 ghost use Rattle.t1_disassemble.specs.Words.{one_byte_words};
 ghost use Rattle.t1_disassemble.specs.WordsOnto.{put_first};
 
@@ -18,7 +18,8 @@ const ROOM_OF_A_WORD: usize = 16;
 /// How many words there are, one for each byte.
 const BYTES: usize = 256;
 
-/// The word that a byte is by itself: a command or a number of one byte.
+/// The word that a byte is by itself: a command or a number of one byte. The blank before the next
+/// word stands after its text.
 #[derive(Drop)]
 pub(crate) struct KnownWord {
     first: u8,
@@ -29,7 +30,7 @@ pub(crate) struct KnownWord {
 
 impl Model for KnownWord {
     ghost use Rattle.std.specs.Prelude.{take, ◌≤◌};
-    ghost use Rattle.t1_disassemble.specs.KnownWords.{KnownText, IsKnown};
+    ghost use Rattle.t1_disassemble.specs.KnownWords.{KnownText, IsKnown, HasBlank};
 
     ghost Value = { KnownText };
 
@@ -39,20 +40,23 @@ impl Model for KnownWord {
       is_number = word.is_number;
     } };
 
-    ghost invariant = { λ word. (word.len ≤ 16) × IsKnown (record {
-      first = word.first;
-      text = take word.len word.bytes;
-      is_number = word.is_number;
-    }) };
+    ghost invariant = { λ word. (word.len ≤ 15) × HasBlank word.len word.is_number word.bytes
+        × IsKnown (record {
+          first = word.first;
+          text = take word.len word.bytes;
+          is_number = word.is_number;
+        }) };
 }
 
-/// A few bytes, and others after them.
-fn filled(text: &[u8]) -> [u8; ROOM_OF_A_WORD]
-    requires { length text.now ≤ 16 }
-    ensures { take (length text.now) result ≡ text.now }
+/// A few bytes, the blank before the next word, and others after them.
+fn filled(text: &[u8], is_number: bool) -> [u8; ROOM_OF_A_WORD]
+    requires { length text.now ≤ 15 }
+    ensures text { take (length text.now) result ≡ text.now }
+    ensures blank { HasBlank (length text.now) is_number result }
 {
     let mut bytes = [0; ROOM_OF_A_WORD];
     bytes[..text.len()].copy_from_slice(text);
+    bytes[text.len()] = if is_number { b' ' } else { b'\t' };
     bytes
 }
 
@@ -61,14 +65,14 @@ impl KnownWord {
     fn kept(first: u8, is_number: bool, text: &[u8]) -> Option<KnownWord>
         requires { IsKnown (record { first = first; text = text.now; is_number = is_number }) }
     {
-        if text.len() > ROOM_OF_A_WORD {
+        if text.len() >= ROOM_OF_A_WORD {
             return None;
         }
         Some(KnownWord {
             first,
             is_number,
             len: text.len(),
-            bytes: filled(text),
+            bytes: filled(text, is_number),
         })
     }
 
@@ -117,7 +121,7 @@ impl KnownWord {
             first: 14,
             is_number: false,
             len: 8,
-            bytes: *b"endchar\n        ",
+            bytes: *b"endchar\n\t       ",
         }
     }
 
@@ -142,6 +146,24 @@ impl KnownWord {
     {
         let at = put_blank(bytes, len, is_open);
         let end = put_front(bytes, at, &self.bytes, self.len);
+        (end, self.is_number)
+    }
+
+    /// Puts the word, and the blank before the next one, after others that wait with the blank
+    /// before this one. Answers how many bytes wait then without the last blank, and whether the
+    /// word's line is still open.
+    #[inline(always)]
+    pub(crate) fn put_on(&self, bytes: &mut [u8; ROOM], len: usize) -> (usize, bool)
+        requires { len + 24 ≤ 256 }
+        ensures value { (is_open : Bool) (rest : List ℕ)
+            → HasBlank len is_open bytes.old
+            → put_first (take len bytes.old) is_open self.now.first rest
+            ≡ Ok (take result.0 bytes.new, result.1, rest) }
+        ensures blank { HasBlank result.0 result.1 bytes.new }
+        ensures within { result.0 ≤ 255 }
+        ensures size { length bytes.new ≡ 256 }
+    {
+        let end = put_front(bytes, len + 1, &self.bytes, self.len);
         (end, self.is_number)
     }
 }

@@ -23,10 +23,17 @@ fn is_border(line: &[u8]) -> bool
     is_section(line) || is_closefile(line)
 }
 
+/// How many bytes a line has at least that such a line may begin on.
+const SHORTEST: usize = 4;
+
 /// Whether such a line may begin here and go on with the next.
+#[tactic(auto, using(crate::proofs::BorderLaws::short_begins))]
 fn begins_border(line: &[u8]) -> bool
     ensures { result ≡ begins_border line.now }
 {
+    if line.len() < SHORTEST {
+        return false;
+    }
     begins_section(line) || ends_in(b"mark", line) || ends_in(b"mark currentfile", line)
 }
 

@@ -1,5 +1,5 @@
 //! Where an entry opens on a line of the private text.
-ghost use Rattle.std.specs.Prelude.{◌≡◌, ◌+◌, ◌^◌, ◌<◌, ℕ, length, option_map, IfSome};
+ghost use Rattle.std.specs.Prelude.{◌≡◌, ◌+◌, ◌^◌, ◌<◌, ◌∷◌, ℕ, length, option_map, IfSome};
 ghost use Rattle.t1_text.specs.Tokens.{places_from};
 ghost use Rattle.t1_disassemble.specs.Opening.{glyph_opening, subr_opening, opening_here};
 ghost use Rattle.t1_disassemble.specs.Opening.{first_opening};
@@ -71,14 +71,19 @@ fn subr_opening<'a>(
     None
 }
 
-/// The entry that the first token of a line opens.
-fn opening_here<'a>(operator: &[u8], place: usize, line: &'a [u8]) -> Option<Opening<'a>>
-    requires { place + length line.now < 2 ^ 63 }
+/// The entry that a token opens with those after it.
+fn opening_here<'a>(
+    operator: &[u8],
+    at: usize,
+    first: &'a [u8],
+    rest: &'a [u8],
+) -> Option<Opening<'a>>
+    requires { at + length first.now + length rest.now < 2 ^ 63 }
     ensures value { option_map opening_of result
-        ≡ opening_here operator.now (places_from place line.now) }
+        ≡ opening_here operator.now
+        ((at, first.now) ∷ places_from (at + length first.now) rest.now) }
     ensures within { IfSome result (λ opening. opening.end < 2 ^ 63) }
 {
-    let (at, first, rest) = next_place(place, line)?;
     let (second_at, second, rest) = next_place(at + first.len(), rest)?;
     let (third_at, third, rest) = next_place(second_at + second.len(), rest)?;
     if let Some(opening) = glyph_opening(operator, (at, first), second, (third_at, third)) {
@@ -98,7 +103,7 @@ pub(crate) fn first_opening<'a>(operator: &[u8], line: &'a [u8]) -> Option<Openi
     let mut place = 0;
     let mut rest = line;
     while let Some((at, token, after)) = next_place(place, rest) {
-        if let Some(opening) = opening_here(operator, place, rest) {
+        if let Some(opening) = opening_here(operator, at, token, after) {
             return Some(opening);
         }
         place = at + token.len();

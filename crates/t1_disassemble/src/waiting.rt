@@ -48,6 +48,7 @@ pub(crate) fn put_front(bytes: &mut [u8; ROOM], len: usize, more: &[u8; 16], cou
     ensures size { length bytes.new ≡ 256 }
     ensures end { result ≡ len + count }
     ensures front { take result bytes.new ≡ take len bytes.old ++ take count more.now }
+    ensures all { take (len + 16) bytes.new ≡ take len bytes.old ++ more.now }
 {
     let _end = put_bytes(bytes, len, more);
     len + count
