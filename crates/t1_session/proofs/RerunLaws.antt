@@ -1,6 +1,6 @@
 -- What an edit leaves of what a session keeps.
 use Rattle.std.proofs.Common.{◌≡◌, ◌≤◌, ℕ, true, length, List, Result, Ok, Err, ap, sym, ◌∙◌, subst, arith}
-use Rattle.std.specs.List.{list_all}
+use Rattle.std.specs.List.{list_all, AllByRecursion}
 use Rattle.t1_frac.specs.declared.fault.Fault.{Fault}
 use Rattle.t1_frac.specs.declared.fault.Refusal.{Refusal}
 use Rattle.t1_frac.specs.declared.fault.Refusal.TheVariants as refusals
@@ -25,8 +25,9 @@ use Rattle.t1_rerun.specs.Opened.{runs_where}
 use Rattle.t1_held.specs.declared.held.Held.{Held}
 use Rattle.t1_held.specs.Held.{IsHeld}
 use Rattle.t1_held.specs.Edits.{IsPreparedEdit}
-use Rattle.t1_held.proofs.HeldLaws.{checked_well, right_checked}
-use Rattle.t1_session.specs.RerunsByTest.{SpendsAtMost}
+use Rattle.t1_held.proofs.HeldLaws.{checked_well, file_checked, right_checked}
+use Rattle.t1_rerun.specs.Renewing.{IsRunWhereStale}
+use Rattle.t1_session.specs.RerunsByTest.{RenewsByTest, SpendsAtMost}
 use Rattle.t1_session.specs.State.{SessionView}
 
 -- each glyph that an edit of a source makes stale is run once; none, where a body or the file has a fault
@@ -69,6 +70,21 @@ pub edits_unmade : (v new : SessionView) (old made : SourceParts) (keys : List K
     → SpendsAtMost (length (stale v.state.source keys made)) v new
 edits_unmade v new old made keys count kept source was were same checked runs =
     edits_spend (Unit {0}) v new old made keys count kept refusals.Memory source was were same (runs_where (file_check made) (stale old keys made), omega arith, runs)
+
+-- their runs were made, and all of what they make is kept
+pub edits_renew : (v new : SessionView) (old made : SourceParts) (keys : List Key) (count : ℕ) (kept : List RecordedGlyph)
+    → v.state.source ≡ old → v.kept ≡ kept → v.runs ≡ count → source_check made ≡ Ok tt
+    → new.runs ≡ counted count (runs_where (file_check made) (stale old keys made)) → AllByRecursion (IsRunWhereStale count keys old kept) new.kept
+    → RenewsByTest (record { keys = keys; source = made }) v new
+edits_renew v new old made keys count kept source was were checked runs each = record {
+  runs = runs
+      ∙ ap (λ check. counted count (runs_where check (stale old keys made))) (file_checked made checked)
+      ∙ ap (λ n. counted n (length (stale old keys made))) (sym were)
+      ∙ ap (λ s. counted v.runs (length (stale s keys made))) (sym source);
+  each = subst (λ n. AllByRecursion (IsRunWhereStale n keys v.state.source v.kept) new.kept) (sym were)
+      (subst (λ s. AllByRecursion (IsRunWhereStale count keys s v.kept) new.kept) (sym source)
+      (subst (λ k. AllByRecursion (IsRunWhereStale count keys old k) new.kept) (sym was) each));
+}
 
 -- one edit
 
