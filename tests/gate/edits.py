@@ -6,7 +6,8 @@ import re
 
 TOP = os.path.dirname(os.path.dirname(os.path.dirname(os.path.abspath(__file__))))
 FUNCTION = re.compile(r"(\s*)(?:pub(?:\(\w+\))? )?(?:const )?(?:unsafe )?(?:extern \"C\" )?fn (\w+)")
-IMPL = re.compile(r"impl(?:<.*?>)? (?:(?:.*) for )?(\w+)")
+# the type of an `impl`, and its number if it has one; the prover calls Sides<20> Sides+20
+IMPL = re.compile(r"impl(?:<.*?>)? (?:(?:.*) for )?(\w+)(?:<(\d+)>)?")
 CYCLE = re.compile(r"\s*#\[cycle\((\w+)\)\]")
 OTHER_ITEM = re.compile(r"(?:pub(?:\(\w+\))? )?(?:const|static|struct|enum|type|use|mod|trait|macro_rules)\b")
 
@@ -95,7 +96,7 @@ def function_at(file, text, at):
     parts = file.removeprefix("src/").removesuffix(".rt").split("/")
     module = "::".join(parts[:-1] if parts[-1] in ("lib", "main", "mod") else parts)
     above = next((it for it in reversed(lines[:head]) if indent and IMPL.match(it)), "")
-    owner = IMPL.match(above).group(1) if above else ""
+    owner = "+".join(it for it in IMPL.match(above).groups() if it) if above else ""
     return Function(file, head, module, owner, " for " in above, name, cycle_of(lines, head))
 
 
