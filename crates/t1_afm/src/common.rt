@@ -7,6 +7,7 @@ ghost use Rattle.t1_frac.specs.Fraction.{floor_of, ceiling_of, IsSame};
 ghost use Rattle.t1_frac.specs.Limits.{IsCoordinate};
 ghost use Rattle.t1_afm.specs.Bounds.{IsInRange, over_cube, over_den, over_cube_and};
 
+use crate::cubic::Cubic;
 use crate::span::Span;
 use crate::whole::{WholeCubic, floor};
 use t1_frac::Frac;
@@ -108,22 +109,25 @@ impl CommonCubic {
     ghost use Rattle.t1_afm.specs.Common.{IsCommon, common_values};
     ghost use Rattle.t1_afm.specs.Spans.{span_of};
 
-    /// The cubic between four coordinates, where a denominator of all was found over which their
+    /// The cubic over a denominator of all four points, where one was found over which their
     /// numerators are small.
-    pub(crate) fn of(start: &Frac, first: &Frac, second: &Frac, end: &Frac) -> Option<CommonCubic>
-        requires start { IsCoordinate start.now }
-        requires first { IsCoordinate first.now }
-        requires second { IsCoordinate second.now }
-        requires end { IsCoordinate end.now }
-        ensures { IfSome result (IsCommon start.now first.now second.now end.now) }
+    pub(crate) fn of(cubic: &Cubic) -> Option<CommonCubic>
+        ensures { IfSome result
+            (IsCommon cubic.now.start cubic.now.first cubic.now.second cubic.now.end) }
     {
-        let outer = common_den(start.den().unsigned_abs(), end.den().unsigned_abs());
-        let inner = common_den(first.den().unsigned_abs(), second.den().unsigned_abs());
+        let outer = common_den(
+            cubic.start.den().unsigned_abs(),
+            cubic.end.den().unsigned_abs(),
+        );
+        let inner = common_den(
+            cubic.first.den().unsigned_abs(),
+            cubic.second.den().unsigned_abs(),
+        );
         let den = common_den(outer, inner);
-        let start = numerator_over(start, den)?;
-        let first = numerator_over(first, den)?;
-        let second = numerator_over(second, den)?;
-        let end = numerator_over(end, den)?;
+        let start = numerator_over(&cubic.start, den)?;
+        let first = numerator_over(&cubic.first, den)?;
+        let second = numerator_over(&cubic.second, den)?;
+        let end = numerator_over(&cubic.end, den)?;
         let cubic = WholeCubic {
             start,
             first,

@@ -9,7 +9,7 @@ ghost use Rattle.t1_afm.specs.Bounds.{IsInRange, fraction_of};
 
 use crate::common::CommonCubic;
 use crate::ratio::{Ratio, WeightedPair};
-use crate::span::{Span, line_span};
+use crate::span::{Line, Span};
 use crate::whole::WholeCubic;
 use t1_frac::Frac;
 
@@ -72,8 +72,7 @@ impl Cubic {
         ensures { result
             ≡ span_of (cubic_values self.now.start self.now.first self.now.second self.now.end) }
     {
-        let found = CommonCubic::of(&self.start, &self.first, &self.second, &self.end);
-        let Some(cubic) = found else {
+        let Some(cubic) = CommonCubic::of(self) else {
             return self.sampled_span();
         };
         cubic.span()
@@ -85,8 +84,16 @@ impl Cubic {
         ensures { result
             ≡ span_of (cubic_values self.now.start self.now.first self.now.second self.now.end) }
     {
-        let ends = line_span(&self.start, &self.end);
-        let inner = line_span(&self.first, &self.second);
+        let outer = Line {
+            start: self.start,
+            end: self.end,
+        };
+        let between = Line {
+            start: self.first,
+            end: self.second,
+        };
+        let ends = outer.span();
+        let inner = between.span();
         if ends.low <= inner.low && inner.high <= ends.high {
             return ends;
         }

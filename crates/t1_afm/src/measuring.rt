@@ -7,7 +7,7 @@ ghost use Rattle.t1_afm.specs.Box.{box as box_of, outline_box, around, unite as 
 
 use crate::bbox::{BBox, spanned};
 use crate::cubic::Cubic;
-use crate::span::line_span;
+use crate::span::Line;
 use t1_run::{Point, Segment, moved_segment};
 
 /// The box around a segment's points.
@@ -17,7 +17,17 @@ fn segment_box(segment: &Segment) -> BBox
     ensures { result ≡ box_of (points_of segment.now) }
 {
     match segment {
-        Segment::Line(a, b) => spanned(line_span(&a.x, &b.x), line_span(&a.y, &b.y)),
+        Segment::Line(a, b) => {
+            let x = Line {
+                start: a.x,
+                end: b.x,
+            };
+            let y = Line {
+                start: a.y,
+                end: b.y,
+            };
+            spanned(x.span(), y.span())
+        }
         Segment::Curve(a, b, c, d) => {
             let x = Cubic {
                 start: a.x,
@@ -46,7 +56,15 @@ fn box_with(bbox: &BBox, segment: &Segment) -> BBox
     let upward = bbox.vertical();
     match segment {
         Segment::Line(a, b) => {
-            spanned(across.with_line(&a.x, &b.x), upward.with_line(&a.y, &b.y))
+            let x = Line {
+                start: a.x,
+                end: b.x,
+            };
+            let y = Line {
+                start: a.y,
+                end: b.y,
+            };
+            spanned(x.span_with(&across), y.span_with(&upward))
         }
         Segment::Curve(a, b, c, d) => {
             let x = Cubic {

@@ -90,23 +90,30 @@ impl Span {
         }
         self.around(&coordinate_span(a))
     }
-
-    /// The span around this one and two coordinates. Most points of an outline reach no further
-    /// than those before them.
-    pub(crate) fn with_line(&self, a: &Frac, b: &Frac) -> Span
-        requires a { IsCoordinate a.now }
-        requires b { IsCoordinate b.now }
-        ensures { result ≡ span_around self.now (span_of (a.now ∷ b.now ∷ [])) }
-    {
-        self.with(a).with(b)
-    }
 }
 
-/// The span around two coordinates.
-pub(crate) fn line_span(a: &Frac, b: &Frac) -> Span
-    requires a { IsCoordinate a.now }
-    requires b { IsCoordinate b.now }
-    ensures { result ≡ span_of (a.now ∷ b.now ∷ []) }
-{
-    coordinate_span(a).around(&coordinate_span(b))
+/// A line along one axis, by the coordinates of its ends.
+#[derive(Clone, Copy)]
+pub(crate) struct Line {
+    pub(crate) start: Frac,
+    pub(crate) end: Frac,
+    ghost start_within: { IsCoordinate start },
+    ghost end_within: { IsCoordinate end },
+}
+
+impl Line {
+    /// The span around both ends.
+    pub(crate) fn span(&self) -> Span
+        ensures { result ≡ span_of (self.now.start ∷ self.now.end ∷ []) }
+    {
+        coordinate_span(&self.start).around(&coordinate_span(&self.end))
+    }
+
+    /// The span around another one and both ends. Most points of an outline reach no further than
+    /// those before them.
+    pub(crate) fn span_with(&self, other: &Span) -> Span
+        ensures { result ≡ span_around other.now (span_of (self.now.start ∷ self.now.end ∷ [])) }
+    {
+        other.with(&self.start).with(&self.end)
+    }
 }

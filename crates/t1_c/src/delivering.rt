@@ -1,5 +1,5 @@
 //! Files told in buffers of the caller's.
-ghost use Rattle.std.specs.Prelude.{◌≡◌, ◌≤◌, ◌-◌, ◌^◌, ℕ, List, pos, IfOk, IfSome, Result};
+ghost use Rattle.std.specs.Prelude.{◌≡◌, ℕ, List, pos, IfOk, Result};
 ghost use Rattle.t1_frac.specs.declared.fault.Fault.{Fault};
 ghost use Rattle.t1_frac.specs.Outcome.{Gives};
 ghost use Rattle.t1_disassemble.specs.declared.fault.FontFault.{FontFault};
@@ -10,17 +10,16 @@ ghost use Rattle.t1_c.specs.Calls.{Delivered, DeliveredFont, Judged, Listed};
 use crate::status::{DONE, MEMORY, REFUSED};
 use crate::texts::{put, tell_fault, tell_font_fault};
 use std::alloc::{AllocError, Global};
+use t1_code::BlockSize;
 use t1_disassemble::FontRefusal;
 use t1_frac::Refusal;
 
 /// The length of segments, from 1 to 2147483647 bytes.
-pub fn segment_length(size: usize) -> Option<usize>
-    ensures value { result ≡ block_size (pos size) }
-    ensures some { IfSome result (λ segment. 1 ≤ segment) }
-    ensures short { IfSome result (λ segment. segment ≤ 2 ^ 31 - 1) }
+pub fn segment_length(size: usize) -> Option<BlockSize>
+    ensures { result ≡ block_size (pos size) }
 {
     if 1 <= size && size <= 2_147_483_647 {
-        Some(size)
+        Some(BlockSize::new(size))
     } else {
         None
     }

@@ -8,15 +8,15 @@ use Rattle.std.proofs.lemmas.List.Folds.{list_any-append}
 use Rattle.std.proofs.lemmas.List.Sums.{sum_by-append}
 use Rattle.t1_run.specs.Run.{Key}
 use Rattle.t1_run.specs.RunKeys.{key_eq}
-use Rattle.t1_cache.specs.declared.records.Named.{Named}
+use Rattle.t1_font.specs.declared.owned_key.OwnedKey.{OwnedKey}
 use Rattle.t1_cache.specs.Users.{Pairs, UserSet, HasUserRoom, pairs_of_key, has_pair}
-use Rattle.t1_cache.specs.EditKeys.{key_of}
+use Rattle.t1_font.specs.OwnedKeys.{key_of}
 
 pub less-room : (a b : ℕ) (r : Option UserSet) → a ≤ b → HasUserRoom b r → HasUserRoom a r
 less-room a b None h had = omega (arith, h, had)
 less-room a b (Some r) h had = omega (arith, h, had)
 
-pub wanted-last : (pairs : Pairs) (p : Named × Vec ℕ Global) (k : Key)
+pub wanted-last : (pairs : Pairs) (p : OwnedKey × Vec ℕ Global) (k : Key)
     → pairs_of_key (pairs ++ p ∷ []) k ≡ cond (key_eq k (key_of p.0)) (pairs_of_key pairs k + 1) (pairs_of_key pairs k)
 wanted-last pairs p k =
     sum_by-append (λ x. cond (key_eq k (key_of x.0)) 1 0) pairs (p ∷ []) ∙ by (key_eq k (key_of p.0)) (pairs_of_key pairs k)
@@ -25,7 +25,7 @@ wanted-last pairs p k =
     by true n = omega arith
     by false n = omega arith
 
-pub joined-last : (pairs : Pairs) (p : Named × Vec ℕ Global) (k : Key) (u : List ℕ) (had : Bool)
+pub joined-last : (pairs : Pairs) (p : OwnedKey × Vec ℕ Global) (k : Key) (u : List ℕ) (had : Bool)
     → ((had || (key_eq k (key_of p.0) && bytes_eq u p.1.items)) || has_pair pairs k u) ≡ (had || has_pair (pairs ++ p ∷ []) k u)
 joined-last pairs p k u had =
     turn had (key_eq k (key_of p.0) && bytes_eq u p.1.items) (has_pair pairs k u)
@@ -38,7 +38,7 @@ joined-last pairs p k u had =
     turn false false true = refl
     turn false false false = refl
 
-pub left-last : (pairs : Pairs) (p : Named × Vec ℕ Global) (k : Key) (u : List ℕ) (had : Bool)
+pub left-last : (pairs : Pairs) (p : OwnedKey × Vec ℕ Global) (k : Key) (u : List ℕ) (had : Bool)
     → ((had && not (key_eq k (key_of p.0) && bytes_eq u p.1.items)) && not (has_pair pairs k u)) ≡ (had && not (has_pair (pairs ++ p ∷ []) k u))
 left-last pairs p k u had =
     turn had (key_eq k (key_of p.0) && bytes_eq u p.1.items) (has_pair pairs k u)

@@ -13,12 +13,12 @@ use Rattle.t1_code.specs.declared.command.Command.{Command}
 use Rattle.t1_run.specs.Run.{Key, Subr, Glyph, own}
 use Rattle.t1_run.specs.RunKeys.{body_at, key_eq}
 use Rattle.t1_run.specs.Touched.{is_user}
-use Rattle.t1_cache.specs.declared.records.Named.{Named}
+use Rattle.t1_font.specs.declared.owned_key.OwnedKey.{OwnedKey}
 use Rattle.t1_cache.specs.declared.records.Records.{Records}
 use Rattle.t1_cache.specs.Bodies.{record_bodies}
 use Rattle.t1_cache.specs.Room.{IsRoomier, MayJoin, RoomLaw}
 use Rattle.t1_cache.specs.Users.{has_pair, HasUserRoom, Pairs, UserSet, users_at, pairs_of_key}
-use Rattle.t1_cache.specs.EditKeys.{key_of}
+use Rattle.t1_font.specs.OwnedKeys.{key_of}
 use Rattle.t1_font.proofs.Keys.{key-same}
 use Rattle.t1_font.proofs.Lookups.{Distinguishes, bytes_tell, inserted-at}
 use Rattle.t1_cache.proofs.Putting.{at, users-put}
@@ -121,7 +121,7 @@ room_for_joins m names joins are records same may k = by (users_at records k) re
       ]
 
 -- one more that joins
-pub wanted-more : (joins : Pairs) (i : ℕ) (p : Named × Vec ℕ Global) (k : Key) → i < length joins → p ≡ get_or joins i p
+pub wanted-more : (joins : Pairs) (i : ℕ) (p : OwnedKey × Vec ℕ Global) (k : Key) → i < length joins → p ≡ get_or joins i p
     → pairs_of_key (take (i + 1) joins) k ≡ cond (key_eq k (key_of p.0)) (pairs_of_key (take i joins) k + 1) (pairs_of_key (take i joins) k)
 wanted-more joins i p k less is = by (key_eq k (key_of p.0)) refl where
   by : (b : Bool) → key_eq k (key_of p.0) ≡ b → pairs_of_key (take (i + 1) joins) k ≡ cond b (pairs_of_key (take i joins) k + 1) (pairs_of_key (take i joins) k)

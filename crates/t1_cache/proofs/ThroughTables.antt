@@ -4,21 +4,21 @@ use Rattle.std.specs.Prelude.{◌||◌}
 use Rattle.std.specs.List.{list_any}
 use Rattle.t1_run.specs.Run.{FontBodies, Glyph}
 use Rattle.t1_run.specs.Touched.{is_key_of, is_met, Found as FoundAmong, Seed as SeedAmong, User as UserAmong, AreStale}
-use Rattle.t1_cache.specs.declared.records.Named.{Named}
+use Rattle.t1_font.specs.declared.owned_key.OwnedKey.{OwnedKey}
 use Rattle.t1_cache.specs.declared.records.Records.{Records}
 use Rattle.t1_cache.specs.Found.{Reached, Seed, User, Closes}
 use Rattle.t1_cache.specs.Tables.{is_seed, AreTables}
 use Rattle.t1_cache.specs.Users.{among, glyph_users}
-use Rattle.t1_cache.specs.EditKeys.{key_of}
+use Rattle.t1_font.specs.OwnedKeys.{key_of}
 
 module _ (m : FontBodies) (records : Records) (tables : AreTables m records) where
-  seeds-met : (g : List ℕ) (edits : List Named) → list_any (is_seed records g) edits ≡ list_any (is_met m g) (map key_of edits)
+  seeds-met : (g : List ℕ) (edits : List OwnedKey) → list_any (is_seed records g) edits ≡ list_any (is_met m g) (map key_of edits)
   seeds-met g [] = refl
   seeds-met g (edit ∷ edits) =
       ap (λ b. (is_key_of g (key_of edit) || b) || list_any (is_seed records g) edits) (tables (key_of edit) g)
       ∙ ap (λ b. is_met m g (key_of edit) || b) (seeds-met g edits)
 
-  module _ (edits : List Named) (seed : List ℕ → Bool) (seeds : (g : List ℕ) → seed g ≡ list_any (is_seed records g) edits) where
+  module _ (edits : List OwnedKey) (seed : List ℕ → Bool) (seeds : (g : List ℕ) → seed g ≡ list_any (is_seed records g) edits) where
     met : (g : List ℕ) → seed g ≡ list_any (is_met m g) (map key_of edits)
     met g = seeds g ∙ seeds-met g edits
 

@@ -3,8 +3,6 @@ use Rattle.std.specs.Prelude.{ℤ, pos, negsuc, List, [], ◌∷◌}
 use Rattle.t1_source.specs.declared.edit.Edit.{Edit}
 use Rattle.t1_source.specs.declared.edit.Edit.TheVariants.{ReplaceGlyph, AddGlyph, RemoveGlyph, ReplaceSubr, AddSubr, RemoveSubr, Encode, Unencode, LenIv, Kern, Unkern}
 use Rattle.t1_run.specs.Run.{Key, Subr, Glyph}
-use Rattle.t1_cache.specs.declared.records.Named.{Named}
-use Rattle.t1_cache.specs.declared.records.Named.TheVariants as entries
 
 -- profile: the key of a Subr, which no negative number has
 abbrev pub subr_key : ℤ → List Key
@@ -24,8 +22,3 @@ named (Unencode code) = []
 named (LenIv n) = []
 named (Kern left right value) = []
 named (Unkern left right) = []
-
--- profile: the key of the Subr or the glyph that is named
-abbrev pub key_of : Named → Key
-key_of (entries.Subr n) = Subr n
-key_of (entries.Glyph g) = Glyph g

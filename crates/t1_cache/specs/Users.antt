@@ -15,8 +15,8 @@ use Rattle.t1_afm.specs.declared.bbox.BBox.{BBox}
 use Rattle.t1_cache.specs.declared.records.GlyphRecord.{GlyphRecord}
 use Rattle.t1_cache.specs.declared.records.SubrRecord.{SubrRecord}
 use Rattle.t1_cache.specs.declared.records.Records.{Records}
-use Rattle.t1_cache.specs.declared.records.Named.{Named}
-use Rattle.t1_cache.specs.EditKeys.{key_of}
+use Rattle.t1_font.specs.declared.owned_key.OwnedKey.{OwnedKey}
+use Rattle.t1_font.specs.OwnedKeys.{key_of}
 
 -- word: a name is among these
 abbrev pub is_name_among : {K : Type 0} → (K → List ℕ) → List K → List ℕ → Bool
@@ -98,7 +98,7 @@ is_key_among names (Glyph g) = is_name_among (λ name. name.items) names g
 
 -- word: Subrs and glyphs, each with a glyph that leaves or joins its users
 abbrev pub Pairs : Type 0
-Pairs = List (Named × Vec ℕ Global)
+Pairs = List (OwnedKey × Vec ℕ Global)
 
 -- word: how many of these pairs are of this key
 abbrev pub pairs_of_key : Pairs → Key → ℕ

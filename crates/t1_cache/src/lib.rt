@@ -30,7 +30,7 @@ pub use changed::{
     insert_glyph, insert_subr, put_glyph, put_in_subr, put_last_glyph, put_subr, remove_glyph,
     remove_glyphs, remove_subr,
 };
-pub use records::{GlyphRecord, Named, Names, NewRun, NewRuns, Records, Rerun, SubrRecord};
+pub use records::{GlyphRecord, Names, NewRun, NewRuns, Records, Rerun, SubrRecord};
 pub use renewed::{renew, renew_by_name};
 pub use room::{Counts, count_joins, make_room, users_of_glyph, users_of_subr};
 pub use stale::found;

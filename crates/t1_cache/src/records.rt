@@ -7,7 +7,6 @@ use indexmap::{IndexMap, IndexSet};
 use t1_afm::BBox;
 use t1_code::{Body, Command};
 use t1_extent::KeptRun;
-use t1_frac::Bytes;
 use t1_run::{Bodies, StoredBodies};
 
 /// Names of glyphs, each once.
@@ -64,13 +63,6 @@ impl StoredBodies for Records {
             Some(glyph) => Some(glyph.record().body.commands()),
         }
     }
-}
-
-/// A Subr by its number, or a glyph by its name.
-#[derive(Debug, Drop)]
-pub enum Named {
-    Subr(u16),
-    Glyph(Bytes),
 }
 
 /// A glyph that was run again: its new run, and the box of its outline where it draws.

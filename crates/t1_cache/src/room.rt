@@ -7,13 +7,14 @@ ghost use Rattle.t1_run.specs.Run.{Key};
 ghost use Rattle.t1_run.specs.RunKeys.{key_eq};
 ghost use Rattle.t1_cache.specs.Room.{count_at, glyph_count, subr_count, IsRoomier, MayJoin};
 ghost use Rattle.t1_cache.specs.Users.{glyph_rest, glyph_users, lists, rest_of, subr_rest};
-ghost use Rattle.t1_cache.specs.EditKeys.{key_of};
+ghost use Rattle.t1_font.specs.OwnedKeys.{key_of};
 ghost use Rattle.t1_cache.specs.Users.{subr_users, users_at, pairs_of_key};
 
 use crate::boxed::BoxedRecord;
-use crate::records::{Named, Names, Records, SubrRecord};
+use crate::records::{Names, Records, SubrRecord};
 use indexmap::{IndexMap, IndexSet};
 use std::alloc::{AllocError, Global};
+use t1_font::OwnedKey;
 
 /// How many glyphs joined each Subr and each glyph so far.
 #[derive(Drop)]
@@ -93,7 +94,7 @@ fn reserve_glyph(
 fn make_room_at<'a>(
     records: &mut Records,
     counts: &mut Counts<'a>,
-    named: &'a Named,
+    named: &'a OwnedKey,
 ) -> Result<(), AllocError>
     requires { (k : Key) → count_at counts.old k < 2 ^ 63 }
     ensures counts { OnOk result
@@ -108,11 +109,11 @@ fn make_room_at<'a>(
     ensures rest { rest_of records.new ≡ rest_of records.old }
 {
     match named {
-        Named::Subr(number) => {
+        OwnedKey::Subr(number) => {
             let count = count_subr(&mut counts.subrs, *number)?;
             reserve_subr(&mut records.subrs, *number, count)
         }
-        Named::Glyph(name) => {
+        OwnedKey::Glyph(name) => {
             let count = count_glyph(&mut counts.glyphs, name.as_slice())?;
             reserve_glyph(&mut records.glyphs, name.as_slice(), count)
         }
@@ -125,7 +126,7 @@ fn make_room_at<'a>(
 pub fn make_room(
     alloc: Global,
     records: &mut Records,
-    joins: &[(Named, Vec<u8>)],
+    joins: &[(OwnedKey, Vec<u8>)],
 ) -> Result<(), AllocError>
     ensures room { OnOk result
         ((k : Key) → MayJoin (pairs_of_key joins.now k) (users_at records.new k)) }
@@ -144,7 +145,7 @@ pub fn make_room(
 }
 
 /// Counts one more for a Subr or a glyph.
-fn count_join<'a>(counts: &mut Counts<'a>, named: &'a Named) -> Result<(), AllocError>
+fn count_join<'a>(counts: &mut Counts<'a>, named: &'a OwnedKey) -> Result<(), AllocError>
     requires { (k : Key) → count_at counts.old k < 2 ^ 63 }
     ensures { OnOk result
         ((k : Key)
@@ -153,8 +154,8 @@ fn count_join<'a>(counts: &mut Counts<'a>, named: &'a Named) -> Result<(), Alloc
         + 1 else count_at counts.old k)) }
 {
     match named {
-        Named::Subr(number) => count_subr(&mut counts.subrs, *number)?,
-        Named::Glyph(name) => count_glyph(&mut counts.glyphs, name.as_slice())?,
+        OwnedKey::Subr(number) => count_subr(&mut counts.subrs, *number)?,
+        OwnedKey::Glyph(name) => count_glyph(&mut counts.glyphs, name.as_slice())?,
     };
     Ok(())
 }
@@ -163,7 +164,7 @@ fn count_join<'a>(counts: &mut Counts<'a>, named: &'a Named) -> Result<(), Alloc
 /// joins its users.
 pub fn count_joins<'a>(
     alloc: Global,
-    joins: &'a [(Named, Vec<u8>)],
+    joins: &'a [(OwnedKey, Vec<u8>)],
 ) -> Result<Counts<'a>, AllocError>
     ensures { IfOk result (λ counts. (k : Key) → count_at counts k ≡ pairs_of_key joins.now k) }
 {

@@ -7,12 +7,13 @@ ghost use Rattle.t1_cache.specs.Laws.{AreDistinct};
 ghost use Rattle.t1_cache.specs.Tables.{is_seed, AreTables};
 ghost use Rattle.t1_run.specs.Touched.{AreStale};
 ghost use Rattle.t1_cache.specs.Users.{among, glyph_users, is_name_among, subr_users};
-ghost use Rattle.t1_cache.specs.EditKeys.{key_of};
+ghost use Rattle.t1_font.specs.OwnedKeys.{key_of};
 
 use crate::boxed::BoxedRecord;
-use crate::records::{Named, Names, Records, SubrRecord};
+use crate::records::{Names, Records, SubrRecord};
 use indexmap::{IndexMap, IndexSet};
 use std::alloc::{AllocError, Global};
+use t1_font::OwnedKey;
 
 /// Adds those names that aren't there yet, after the others.
 fn add_users<'a>(found: &mut IndexSet<&'a [u8]>, users: &'a Names) -> Result<(), AllocError>
@@ -107,7 +108,7 @@ fn add_glyph<'a>(
 fn add_seeds<'a>(
     found: &mut IndexSet<&'a [u8]>,
     records: &'a Records,
-    named: &'a Named,
+    named: &'a OwnedKey,
 ) -> Result<(), AllocError>
     ensures { OnOk result
         ((g : List ℕ)
@@ -115,8 +116,8 @@ fn add_seeds<'a>(
         ≡ (is_name_among (λ name. name.now) found.old.keys g || is_seed records.now g named.now)) }
 {
     match named {
-        Named::Subr(number) => add_subr_users(found, &records.subrs, *number),
-        Named::Glyph(name) => add_glyph(found, &records.glyphs, name.as_slice()),
+        OwnedKey::Subr(number) => add_subr_users(found, &records.subrs, *number),
+        OwnedKey::Glyph(name) => add_glyph(found, &records.glyphs, name.as_slice()),
     }
 }
 
@@ -126,7 +127,7 @@ fn add_seeds<'a>(
 pub fn found<'a>(
     alloc: Global,
     records: &'a Records,
-    edits: &'a [Named],
+    edits: &'a [OwnedKey],
 ) -> Result<IndexSet<&'a [u8]>, AllocError>
     ensures once { IfOk result (λ found. AreDistinct (map (λ name. name.now) found.keys)) }
     ensures stale { IfOk result

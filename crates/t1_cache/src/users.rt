@@ -6,14 +6,15 @@ ghost use Rattle.indexmap.specs.IndexSet.{spare};
 ghost use Rattle.t1_run.specs.Run.{Key};
 ghost use Rattle.t1_run.specs.RunKeys.{key_eq};
 ghost use Rattle.t1_cache.specs.Users.{among, glyph_rest, glyph_users, is_name_among, has_pair};
-ghost use Rattle.t1_cache.specs.EditKeys.{key_of};
+ghost use Rattle.t1_font.specs.OwnedKeys.{key_of};
 ghost use Rattle.t1_cache.specs.Users.{lists, rest_of, subr_rest, subr_users, users_at};
 ghost use Rattle.t1_cache.specs.Users.{pairs_of_key};
 ghost use Rattle.t1_cache.specs.Users.{HasUserRoom};
 
 use crate::boxed::BoxedRecord;
-use crate::records::{Named, Names, Records, SubrRecord};
+use crate::records::{Names, Records, SubrRecord};
 use indexmap::IndexMap;
+use t1_font::OwnedKey;
 
 /// Takes a name out. It takes no memory and can't fail.
 fn take_out(names: &mut Names, name: &[u8])
@@ -104,7 +105,7 @@ fn join_glyph(glyphs: &mut IndexMap<Vec<u8>, BoxedRecord>, part: &[u8], name: Ve
 }
 
 /// Takes a glyph out of the users of a Subr or of another glyph.
-fn leave(records: &mut Records, named: Named, name: &[u8])
+fn leave(records: &mut Records, named: OwnedKey, name: &[u8])
     ensures users { (k : Key) (u : List ℕ)
         → lists records.new k u
         ≡ (lists records.old k u && not (key_eq k (key_of named) && bytes_eq u name.now)) }
@@ -114,13 +115,13 @@ fn leave(records: &mut Records, named: Named, name: &[u8])
     ensures rest { rest_of records.new ≡ rest_of records.old }
 {
     match named {
-        Named::Subr(number) => leave_subr(&mut records.subrs, number, name),
-        Named::Glyph(part) => leave_glyph(&mut records.glyphs, part.as_slice(), name),
+        OwnedKey::Subr(number) => leave_subr(&mut records.subrs, number, name),
+        OwnedKey::Glyph(part) => leave_glyph(&mut records.glyphs, part.as_slice(), name),
     }
 }
 
 /// Puts a glyph among the users of a Subr or of another glyph, in the room that was made.
-fn join(records: &mut Records, named: Named, name: Vec<u8>)
+fn join(records: &mut Records, named: OwnedKey, name: Vec<u8>)
     requires { HasUserRoom 1 (users_at records.old (key_of named)) }
     ensures users { (k : Key) (u : List ℕ)
         → lists records.new k u
@@ -132,14 +133,14 @@ fn join(records: &mut Records, named: Named, name: Vec<u8>)
     ensures rest { rest_of records.new ≡ rest_of records.old }
 {
     match named {
-        Named::Subr(number) => join_subr(&mut records.subrs, number, name),
-        Named::Glyph(part) => join_glyph(&mut records.glyphs, part.as_slice(), name),
+        OwnedKey::Subr(number) => join_subr(&mut records.subrs, number, name),
+        OwnedKey::Glyph(part) => join_glyph(&mut records.glyphs, part.as_slice(), name),
     }
 }
 
 /// Takes glyphs out of the users of Subrs and glyphs: each pair is one of these, and the glyph that
 /// leaves it.
-fn leave_all(records: &mut Records, leaves: Vec<(Named, Vec<u8>)>)
+fn leave_all(records: &mut Records, leaves: Vec<(OwnedKey, Vec<u8>)>)
     ensures users { (k : Key) (u : List ℕ)
         → lists records.new k u ≡ (lists records.old k u && not (has_pair leaves.items k u)) }
     ensures room { (k : Key) (count : ℕ)
@@ -154,7 +155,7 @@ fn leave_all(records: &mut Records, leaves: Vec<(Named, Vec<u8>)>)
 }
 
 /// Puts glyphs among the users of Subrs and glyphs, in the room that was made.
-fn join_all(records: &mut Records, joins: Vec<(Named, Vec<u8>)>)
+fn join_all(records: &mut Records, joins: Vec<(OwnedKey, Vec<u8>)>)
     requires { (k : Key) → HasUserRoom (pairs_of_key joins.items k) (users_at records.old k) }
     ensures users { (k : Key) (u : List ℕ)
         → lists records.new k u ≡ (lists records.old k u || has_pair joins.items k u) }
@@ -171,8 +172,8 @@ fn join_all(records: &mut Records, joins: Vec<(Named, Vec<u8>)>)
 /// memory and can't fail.
 pub fn move_users(
     records: &mut Records,
-    leaves: Vec<(Named, Vec<u8>)>,
-    joins: Vec<(Named, Vec<u8>)>,
+    leaves: Vec<(OwnedKey, Vec<u8>)>,
+    joins: Vec<(OwnedKey, Vec<u8>)>,
 )
     requires { (k : Key) → HasUserRoom (pairs_of_key joins.items k) (users_at records.old k) }
     ensures users { (k : Key) (u : List ℕ)

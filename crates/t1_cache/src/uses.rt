@@ -9,20 +9,20 @@ ghost use Rattle.t1_run.specs.Touched.{is_user};
 ghost use Rattle.t1_font.specs.Runs.{drawing_in};
 ghost use Rattle.t1_cache.specs.Renewed.{recorded_run};
 ghost use Rattle.t1_cache.specs.Users.{is_name_among, has_pair};
-ghost use Rattle.t1_cache.specs.EditKeys.{key_of};
+ghost use Rattle.t1_font.specs.OwnedKeys.{key_of};
 
-use crate::records::{Named, Records};
+use crate::records::Records;
 use std::alloc::{AllocError, Global};
 use t1_extent::KeptRun;
-use t1_font::Runs;
+use t1_font::{OwnedKey, Runs};
 use t1_frac::Bytes;
 use t1_run::Composite;
 
 /// Adds a Subr or a glyph, with a glyph that uses it.
 fn push_use(
     alloc: Global,
-    pairs: &mut Vec<(Named, Vec<u8>)>,
-    named: Named,
+    pairs: &mut Vec<(OwnedKey, Vec<u8>)>,
+    named: OwnedKey,
     name: &[u8],
 ) -> Result<(), AllocError>
     ensures { OnOk result
@@ -37,7 +37,7 @@ fn push_use(
 /// Adds each of these Subrs, with the glyph whose run enters it.
 fn push_entered(
     alloc: Global,
-    pairs: &mut Vec<(Named, Vec<u8>)>,
+    pairs: &mut Vec<(OwnedKey, Vec<u8>)>,
     entered: &[u16],
     name: &[u8],
 ) -> Result<(), AllocError>
@@ -47,7 +47,7 @@ fn push_entered(
         ≡ (has_pair pairs.old.items k u || (asks None entered.now k && bytes_eq u name.now))) }
 {
     for number in entered {
-        push_use(alloc, pairs, Named::Subr(*number), name)?;
+        push_use(alloc, pairs, OwnedKey::Subr(*number), name)?;
     }
     Ok(())
 }
@@ -55,7 +55,7 @@ fn push_entered(
 /// Adds the parts of a composite, with the composite.
 fn push_parts(
     alloc: Global,
-    pairs: &mut Vec<(Named, Vec<u8>)>,
+    pairs: &mut Vec<(OwnedKey, Vec<u8>)>,
     parts: &Composite,
     name: &[u8],
 ) -> Result<(), AllocError>
@@ -66,16 +66,16 @@ fn push_parts(
         (asks (Some parts.now) [] k && bytes_eq u name.now))) }
 {
     let base = Bytes::copied(alloc, parts.base.as_slice())?;
-    push_use(alloc, pairs, Named::Glyph(base), name)?;
+    push_use(alloc, pairs, OwnedKey::Glyph(base), name)?;
     let accent = Bytes::copied(alloc, parts.accent.as_slice())?;
-    push_use(alloc, pairs, Named::Glyph(accent), name)?;
+    push_use(alloc, pairs, OwnedKey::Glyph(accent), name)?;
     Ok(())
 }
 
 /// Adds each Subr and each glyph that the run of a glyph uses, with the glyph.
 fn push_uses(
     alloc: Global,
-    pairs: &mut Vec<(Named, Vec<u8>)>,
+    pairs: &mut Vec<(OwnedKey, Vec<u8>)>,
     run: &KeptRun,
     name: &[u8],
 ) -> Result<(), AllocError>
@@ -99,7 +99,7 @@ pub fn leaves_of(
     alloc: Global,
     records: &Records,
     names: &[&[u8]],
-) -> Result<Vec<(Named, Vec<u8>)>, AllocError>
+) -> Result<Vec<(OwnedKey, Vec<u8>)>, AllocError>
     ensures { IfOk result
         (λ pairs.
         (k : Key) (u : List ℕ)
@@ -135,7 +135,7 @@ pub fn joins_of(
     alloc: Global,
     runs: &Runs,
     names: &[&[u8]],
-) -> Result<Vec<(Named, Vec<u8>)>, AllocError>
+) -> Result<Vec<(OwnedKey, Vec<u8>)>, AllocError>
     ensures { IfOk result
         (λ pairs.
         (k : Key) (u : List ℕ)

@@ -1,12 +1,12 @@
 //! The files of a source, in memory.
-ghost use Rattle.std.specs.Prelude.{◌≡◌, ◌≤◌, ◌-◌, ◌^◌};
+ghost use Rattle.std.specs.Prelude.{◌≡◌};
 ghost use Rattle.t1_code.specs.Pfb.{whole_file};
 ghost use Rattle.t1_frac.specs.Outcome.{Gives};
 ghost use Rattle.t1_session.specs.Files.{assembled, assembled_pfa, metrics_file};
 ghost use Rattle.t1_calls.specs.Refusing.{refused_by};
 
 use std::alloc::Global;
-use t1_code::Counted;
+use t1_code::{BlockSize, Counted};
 use t1_frac::Refusal;
 use t1_session::{ServeError, assemble_blocks, assemble_pfa, assemble_source, measure_source};
 
@@ -34,13 +34,11 @@ pub fn pfb_of(alloc: Global, source: &[u8]) -> Result<Vec<u8>, Refusal>
 }
 
 /// The same, each part in segments of so many bytes, the last with the rest.
-pub fn blocks_of(alloc: Global, source: &[u8], size: usize) -> Result<Vec<u8>, Refusal>
-    requires some { 1 ≤ size }
-    requires short { size ≤ 2 ^ 31 - 1 }
+pub fn blocks_of(alloc: Global, source: &[u8], size: BlockSize) -> Result<Vec<u8>, Refusal>
     ensures { Gives (λ file. file.items) result (assembled size source.now) }
 {
     let mut out = Counted::new(Vec::new(alloc));
-    match assemble_blocks(alloc, source, size, &mut out) {
+    match assemble_blocks(alloc, source, size.get(), &mut out) {
         Ok(()) => Ok(out.into_inner()),
         Err(error) => Err(refusal(error)),
     }

@@ -1,5 +1,5 @@
 //! Prints and queries of a session, as answers in memory.
-ghost use Rattle.std.specs.Prelude.{◌≡◌, ◌≤◌, ◌-◌, ◌^◌, Ok, IfOk, option_map};
+ghost use Rattle.std.specs.Prelude.{◌≡◌, Ok, IfOk, option_map};
 ghost use Rattle.t1_code.specs.Parts.{Prints};
 ghost use Rattle.t1_commands.specs.Blocks.{block_size};
 ghost use Rattle.t1_session.specs.Machine.{blocks_answer, file_answer, found_answer};
@@ -8,7 +8,7 @@ ghost use Rattle.t1_calls.specs.Shown.{shown_file};
 
 use std::alloc::{AllocError, Global};
 use std::io::Write;
-use t1_code::{Counted, OutError, WHOLE_PARTS};
+use t1_code::{BlockSize, Counted, OutError, WHOLE_PARTS};
 use t1_commands::{Answer, Print, Show, block_size};
 use t1_frac::Bytes;
 use t1_session::Session;
@@ -17,19 +17,17 @@ use t1_source::Rule;
 /// Writes what a print shows, in blocks of this size where it is in blocks.
 fn put_file<W: Write>(
     session: &Session,
-    size: usize,
+    size: BlockSize,
     print: Print,
     out: &mut Counted<W>,
 ) -> Result<(), OutError>
-    requires some { 1 ≤ size }
-    requires short { size ≤ 2 ^ 31 - 1 }
     ensures { Prints W.contents out.old out.new (shown_file session.now.state size print) result }
 {
     match print {
         Print::Source => session.print_source(out),
         Print::Kern => session.print_kern(out),
         Print::Pfb => session.print_pfb(out),
-        Print::Blocks(_) => session.print_pfb_blocks(size, out),
+        Print::Blocks(_) => session.print_pfb_blocks(size.get(), out),
         Print::Pfa => session.print_pfa(out),
         Print::Afm => session.print_afm(out),
         Print::Uses => session.print_uses(out),
@@ -40,11 +38,9 @@ fn put_file<W: Write>(
 fn file_of(
     alloc: Global,
     session: &Session,
-    size: usize,
+    size: BlockSize,
     print: Print,
 ) -> Result<Vec<u8>, AllocError>
-    requires some { 1 ≤ size }
-    requires short { size ≤ 2 ^ 31 - 1 }
     ensures { IfOk result (λ file. shown_file session.now.state size print ≡ Ok file.items) }
 {
     let mut out = Counted::new(Vec::new(alloc));
@@ -59,11 +55,9 @@ fn file_of(
 fn file_answer(
     alloc: Global,
     session: &Session,
-    size: usize,
+    size: BlockSize,
     print: Print,
 ) -> Result<Answer, AllocError>
-    requires some { 1 ≤ size }
-    requires short { size ≤ 2 ^ 31 - 1 }
     ensures { IfOk result
         (λ answer. answer ≡ file_answer (shown_file session.now.state size print)) }
 {
@@ -85,14 +79,15 @@ fn blocks_answer(alloc: Global, session: &Session, number: i64) -> Result<Answer
 pub fn print_answer(alloc: Global, session: &Session, print: Print) -> Result<Answer, AllocError>
     ensures { IfOk result (λ answer. answer ≡ printed session.now.state print) }
 {
+    let whole = BlockSize::new(WHOLE_PARTS);
     match print {
-        Print::Source => file_answer(alloc, session, WHOLE_PARTS, Print::Source),
-        Print::Kern => file_answer(alloc, session, WHOLE_PARTS, Print::Kern),
-        Print::Pfb => file_answer(alloc, session, WHOLE_PARTS, Print::Pfb),
+        Print::Source => file_answer(alloc, session, whole, Print::Source),
+        Print::Kern => file_answer(alloc, session, whole, Print::Kern),
+        Print::Pfb => file_answer(alloc, session, whole, Print::Pfb),
         Print::Blocks(number) => blocks_answer(alloc, session, number),
-        Print::Pfa => file_answer(alloc, session, WHOLE_PARTS, Print::Pfa),
-        Print::Afm => file_answer(alloc, session, WHOLE_PARTS, Print::Afm),
-        Print::Uses => file_answer(alloc, session, WHOLE_PARTS, Print::Uses),
+        Print::Pfa => file_answer(alloc, session, whole, Print::Pfa),
+        Print::Afm => file_answer(alloc, session, whole, Print::Afm),
+        Print::Uses => file_answer(alloc, session, whole, Print::Uses),
     }
 }
 

@@ -19,6 +19,7 @@ use Rattle.t1_code.specs.Words.{commands}
 use Rattle.t1_code.proofs.Encrypting.{length-eexec}
 use Rattle.t1_parts.specs.declared.item.Item.{Item}
 use Rattle.t1_parts.specs.declared.item.Item.TheVariants as items
+use Rattle.t1_parts.specs.Items.{is_entry}
 use Rattle.t1_parts.specs.LenIV.{lead, first_lead, said_lead}
 use Rattle.t1_parts.specs.Operator.{operator}
 use Rattle.t1_parts.specs.SourceParts.{SourceParts}
@@ -41,7 +42,7 @@ use Rattle.t1_charstrings.specs.Entries.{KeptCharstring, encrypted}
 use Rattle.t1_charstrings.specs.Kept.{AreEncrypted, charstring_at}
 use Rattle.t1_font.specs.Lengths.{IsPrivateLen}
 use Rattle.t1_charstrings.specs.Lines.{kept_entry_line, kept_line, kept_lines_text}
-use Rattle.t1_charstrings.specs.Ready.{is_entry, old_len, replaced_len}
+use Rattle.t1_charstrings.specs.Ready.{old_len, replaced_len}
 use Rattle.t1_charstrings.specs.Sums.{AreEdited, has_key, item_at}
 use Rattle.t1_charstrings.proofs.Adding.{alone, text-both}
 use Rattle.t1_charstrings.proofs.Batches.{over-serves}

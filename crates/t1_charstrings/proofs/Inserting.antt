@@ -9,6 +9,7 @@ use Rattle.t1_frac.specs.Outcome.{fault_at}
 use Rattle.t1_parts.specs.declared.item.Item.{Item}
 use Rattle.t1_parts.specs.declared.item.Item.TheVariants as items
 use Rattle.t1_parts.specs.Counts.{glyphs_needed, is_glyph_entry, raised_item, subrs_needed}
+use Rattle.t1_parts.specs.Items.{is_entry}
 use Rattle.t1_parts.specs.LenIV.{lead, first_lead, said_lead}
 use Rattle.t1_parts.specs.Operator.{operator}
 use Rattle.t1_parts.specs.SourceParts.{SourceParts}
@@ -26,7 +27,7 @@ use Rattle.t1_charstrings.specs.Kept.{AreEncrypted}
 use Rattle.t1_font.specs.Lengths.{IsPrivateLen}
 use Rattle.t1_charstrings.specs.Lines.{kept_line, kept_lines_text}
 use Rattle.t1_charstrings.specs.Raising.{is_raised_counted, raised_check, raised_text}
-use Rattle.t1_charstrings.specs.Ready.{inserted_len, is_entry}
+use Rattle.t1_charstrings.specs.Ready.{inserted_len}
 use Rattle.t1_charstrings.specs.Sums.{AreEdited, has_key, item_at, section_line, section_lines_text}
 use Rattle.t1_charstrings.proofs.Adding.{alone, text-both, Alone}
 use Rattle.t1_charstrings.proofs.Entered.{entered, len_small, merged, merged-line, over-sets, IsEntered}

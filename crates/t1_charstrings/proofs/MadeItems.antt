@@ -1,7 +1,6 @@
 -- The items of a source that edits make, in three parts.
-use Rattle.std.proofs.Common.{◌≡◌, ◌-◌, ◌+◌, ◌^◌, min, ℕ, true, false, cond, List, [], ◌∷◌, ◌++◌, map, length, append_assoc, length-append, refl, sym, ap, subst, ◌∙◌, None, Ok, Err, arith}
-use Rattle.std.specs.Prelude.{nat_eq}
-use Rattle.std.proofs.lemmas.Bool.{eqb-true, not-false}
+use Rattle.std.proofs.Common.{◌≡◌, ◌-◌, ◌+◌, ◌^◌, min, ℕ, true, cond, List, [], ◌∷◌, ◌++◌, map, length, append_assoc, length-append, refl, sym, ap, subst, ◌∙◌, Option, None, Some, Ok, Err, arith}
+use Rattle.std.specs.Prelude.{IfSome}
 use Rattle.std.specs.Option.{option_map, option_or}
 use Rattle.t1_frac.specs.declared.fault.Refusal.{Refusal}
 use Rattle.t1_frac.specs.declared.fault.Refusal.TheVariants as refusals
@@ -14,6 +13,8 @@ use Rattle.t1_parts.specs.Counts.{glyphs_needed, raised, raised_item, subrs_need
 use Rattle.t1_parts.specs.LenIV.{first_lead, lead, lead_among}
 use Rattle.t1_parts.specs.Operator.{operator, operator_among}
 use Rattle.t1_parts.specs.SourceParts.{SourceParts}
+use Rattle.t1_source.specs.Changes.{is_entry_changed, made_after, IsFor}
+use Rattle.t1_source.specs.EditedSource.{EditedParts}
 use Rattle.t1_source.specs.WellFormed.{IsWellFormed}
 use Rattle.t1_run.specs.Run.{Key, Subr, Glyph}
 use Rattle.t1_run.specs.RunKeys.{body_at}
@@ -29,11 +30,8 @@ use Rattle.t1_charstrings.specs.Raising.{raised_check}
 use Rattle.t1_source.specs.declared.editing.change.Change.{Change}
 use Rattle.t1_source.specs.declared.editing.change.Change.TheVariants as changes
 use Rattle.t1_source.proofs.WellFormedSourceLaws.{raised_said}
-use Rattle.t1_charstrings.specs.declared.made.Made.{Made}
-use Rattle.t1_charstrings.specs.declared.made.Made.TheVariants as made
-use Rattle.t1_charstrings.specs.declared.edited.EditedEntries.{EditedEntries}
-use Rattle.t1_charstrings.specs.Batch.{AreEdits, IsEditOf}
-use Rattle.t1_charstrings.specs.Made.{is_entry_changed, made_after, made_of, may_set_lead, source_before_edits, IsFor, IsPreparedByEdits}
+use Rattle.t1_charstrings.specs.Batch.{IsEditOf}
+use Rattle.t1_charstrings.specs.Prepared.{IsMadeOf, IsPreparedFor}
 use Rattle.t1_charstrings.proofs.Entered.{left_front, put_front}
 use Rattle.t1_font.proofs.Checking.{raised-checks, check-both}
 use Rattle.t1_charstrings.proofs.Entering.{body_in, first-body, raised-bodies}
@@ -152,19 +150,23 @@ module _ (is : List Item) (made : SourceParts) (whole : raised is ≡ made.items
 
 -- ---- edits that leave lenIV as it is
 
-lead-changed : {keys : List Key} (change : Change) (s : SourceParts) (c : Charstrings) → IsFor change s → IsEditOf keys s (made_after change s) c
+-- by a change that is still to be made
+pub lead_changed : {keys : List Key} (change : Change) (s : SourceParts) (c : Charstrings) → IsFor change s → IsEditOf keys s (made_after change s) c
     → is_entry_changed change s ≡ true → lead (made_after change s) ≡ lead s
-lead-changed (changes.PutItem at item) s c fits edit entry = put_front s c at item fits.well fits.serves.fits.0 edit.kept fits.serves.fits.2 entry edit.sound
-lead-changed (changes.InsertItem at item) s c fits edit entry = insert_front s c at item fits.well fits.serves.fits edit.kept _ _ refl refl entry edit.well edit.sound
-lead-changed (changes.RemoveItem at) s c fits edit entry = left_front s c at fits.well fits.serves.fits.0 edit.kept entry
-lead-changed (changes.PutClear lines) s c fits edit entry = refl
-lead-changed (changes.PutPair at pair) s c fits edit entry = refl
-lead-changed (changes.InsertPair at pair) s c fits edit entry = refl
-lead-changed (changes.RemovePair at) s c fits edit entry = refl
+lead_changed (changes.PutItem at item) s c fits edit entry = put_front s c at item fits.well fits.serves.fits.0 edit.kept fits.serves.fits.2 entry edit.sound
+lead_changed (changes.InsertItem at item) s c fits edit entry = insert_front s c at item fits.well fits.serves.fits edit.kept _ _ refl refl entry edit.well edit.sound
+lead_changed (changes.RemoveItem at) s c fits edit entry = left_front s c at fits.well fits.serves.fits.0 edit.kept entry
+lead_changed (changes.PutClear lines) s c fits edit entry = refl
+lead_changed (changes.PutPair at pair) s c fits edit entry = refl
+lead_changed (changes.InsertPair at pair) s c fits edit entry = refl
+lead_changed (changes.RemovePair at) s c fits edit entry = refl
 
-pub lead_kept : (m : Made) (len : ℕ) (c : Charstrings) (entries : EditedEntries) → IsPreparedByEdits m len → AreEdits (source_before_edits m) (made_of m) c entries → may_set_lead m ≡ false
-    → lead (made_of m) ≡ lead (source_before_edits m)
-lead_kept (made.Edit source change) len c entries prepared edits off =
-    lead-changed change.now source.now c prepared.fits edits.edit (not-false (is_entry_changed change.now source.now) off)
-lead_kept (made.Batch source of_batch) len c entries prepared edits off =
-    eqb-true (lead of_batch.now) (lead source.now) (not-false (nat_eq (lead of_batch.now) (lead source.now)) off)
+-- what is asked of an edited source, by its change
+pub prepared_for : (e : EditedParts) (change : Change) (s : SourceParts) (len : ℕ) → IsMadeOf s len e → e.change ≡ Some change → (e.source ≡ s) × IsPreparedFor change s len
+prepared_for e change s len of is = subst (λ (o : Option Change). IfSome o (λ change. (e.source ≡ s) × IsPreparedFor change s len)) is of
+
+-- the edited source, by its change
+pub is_changed : (e : EditedParts) (change : Change) (s : SourceParts) (len : ℕ) → IsMadeOf s len e → e.change ≡ Some change → e ≡ record { source = s; change = Some change }
+is_changed e change s len of is =
+    let source : e.source ≡ s = (prepared_for e change s len of is).0 in
+    (λ j. record { source = source j; change = is j })

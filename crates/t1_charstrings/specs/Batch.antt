@@ -11,10 +11,10 @@ use Rattle.t1_source.specs.WellFormed.{IsWellFormed}
 use Rattle.t1_run.specs.Run.{Key, Subr, Glyph}
 use Rattle.t1_run.specs.RunKeys.{body_at, key_eq}
 use Rattle.t1_run.specs.Touched.{SameBut}
+use Rattle.t1_font.specs.declared.owned_key.OwnedKey.{OwnedKey}
 use Rattle.t1_font.specs.Bodies.{bodies, bodies_check}
+use Rattle.t1_font.specs.OwnedKeys.{key_of}
 use Rattle.t1_charstrings.specs.declared.edited.EditedEntries.{EditedEntries}
-use Rattle.t1_charstrings.specs.declared.edited.Gone.{Gone}
-use Rattle.t1_charstrings.specs.declared.edited.Gone.TheVariants as gone
 use Rattle.t1_charstrings.specs.declared.entries.Charstrings.{Charstrings}
 use Rattle.t1_charstrings.specs.Entries.{KeptCharstring, encrypted}
 use Rattle.t1_charstrings.specs.Kept.{AreEncrypted, charstring_at}
@@ -60,17 +60,12 @@ abbrev pub AreFresh : ℕ → List Key → SourceParts → Charstrings → Type 
 AreFresh front keys made fresh =
     (k : Key) → charstring_at fresh k ≡ (if list_any (key_eq k) keys then option_map (encrypted front k) (body_at (bodies made.items) k) else None)
 
--- word: the key of an entry that is gone
-abbrev pub gone_key : Gone → Key
-gone_key (gone.Subr number) = Subr number
-gone_key (gone.Glyph name) = Glyph name.items
-
 -- word: whether the entry of a key is among those that are gone
-abbrev pub is_gone : List Gone → Key → Bool
-is_gone gone k = list_any (λ g. key_eq k (gone_key g)) gone
+abbrev pub is_gone : List OwnedKey → Key → Bool
+is_gone gone k = list_any (λ g. key_eq k (key_of g)) gone
 
 -- word: those of these keys at which a source has no body
-abbrev pub AreGone : List Key → SourceParts → List Gone → Type 0
+abbrev pub AreGone : List Key → SourceParts → List OwnedKey → Type 0
 AreGone keys made gone = (k : Key) → is_gone gone k ≡ (list_any (key_eq k) keys && is_none (body_at (bodies made.items) k))
 
 -- word: one source was made of the other by edits that name some entries, and these are the charstrings of those that were

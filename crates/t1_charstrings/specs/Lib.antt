@@ -4,7 +4,7 @@ pub mod Entries
 pub mod Kept
 pub mod Laws
 pub mod Lines
-pub mod Made
+pub mod Prepared
 pub mod Raising
 pub mod Ready
 pub mod Sums

@@ -1,9 +1,8 @@
 -- What is ready to be kept of a source that is about to be edited.
-use Rattle.std.specs.Prelude.{◌≡◌, ◌≤◌, ◌+◌, ◌-◌, ◌^◌, min, length, if◌then◌else◌, ℕ, Bool, true, false, None}
+use Rattle.std.specs.Prelude.{◌≡◌, ◌≤◌, ◌+◌, ◌-◌, ◌^◌, min, length, if◌then◌else◌, ℕ, None}
 use Rattle.std.specs.Option.{option_or}
 use Rattle.indexmap.specs.IndexMap.{spare}
 use Rattle.t1_parts.specs.declared.item.Item.{Item}
-use Rattle.t1_parts.specs.declared.item.Item.TheVariants as items
 use Rattle.t1_parts.specs.Operator.{operator}
 use Rattle.t1_parts.specs.SourceParts.{SourceParts}
 use Rattle.t1_run.specs.Run.{Key}
@@ -37,12 +36,6 @@ pub record IsReadyLines (made : SourceParts) (c : Charstrings) (ready : ReadyLin
   pub len : IsPrivateLen made ready.len
 
 -- ---- the length of the private text after one edit
-
--- word: whether an item is a Subr or a glyph
-abbrev pub is_entry : Item → Bool
-is_entry (items.Subr n words closing) = true
-is_entry (items.Glyph g words closing) = true
-is_entry item = false
 
 -- word: how long the line of the item at a place is, up to 2^64 - 1
 abbrev pub old_len : Charstrings → SourceParts → ℕ → ℕ

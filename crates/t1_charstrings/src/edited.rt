@@ -1,13 +1,7 @@
 //! The entries that edits name, as the edits leave them.
 
 use crate::entries::Charstrings;
-
-/// An entry that edits remove.
-#[derive(Drop)]
-pub enum Gone {
-    Subr(u16),
-    Glyph(Vec<u8>),
-}
+use t1_font::OwnedKey;
 
 /// What edits make of the entries that they name.
 #[derive(Drop)]
@@ -15,5 +9,5 @@ pub struct EditedEntries {
     /// The charstrings of the entries that were replaced or added.
     pub fresh: Charstrings,
     /// The entries that are removed.
-    pub gone: Vec<Gone>,
+    pub gone: Vec<OwnedKey>,
 }

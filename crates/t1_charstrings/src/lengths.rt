@@ -69,33 +69,21 @@ pub(crate) fn section_line_len(before: &[u8], count: u64, after: &[u8]) -> usize
 }
 
 /// How long the line of an item is, up to 2^64 - 1.
-pub fn line_len(charstrings: &Charstrings, operator: &[u8], item: &Item) -> usize
-    ensures { result ≡ min (length (kept_line charstrings.now operator.now item.now)) (2 ^ 64 - 1) }
-{
-    match item {
-        Item::Plain(line) => line.as_slice().len().saturating_add(1),
-        Item::Section(before, count, after) => {
-            section_line_len(before.as_slice(), *count, after.as_slice())
-        }
-        Item::Subr(number, _, closing) => {
-            let kept = charstrings.subrs.get(number);
-            kept_line_len(operator, kept, closing.as_slice())
-        }
-        Item::Glyph(name, _, closing) => {
-            let kept = charstrings.glyphs.get(name.as_slice());
-            kept_line_len(operator, kept, closing.as_slice())
-        }
-    }
-}
-
-/// How long the line of an item is, where it stands, up to 2^64 - 1.
-pub(crate) fn line_ref_len(charstrings: &Charstrings, operator: &[u8], item: &ItemRef) -> usize
+pub fn line_len(charstrings: &Charstrings, operator: &[u8], item: &ItemRef) -> usize
     ensures { result
         ≡ min (length (kept_line charstrings.now operator.now (item_of item.now))) (2 ^ 64 - 1) }
 {
     match item {
-        ItemRef::Line(line) => line.len().saturating_add(1),
-        ItemRef::Item(item) => line_len(charstrings, operator, item),
+        ItemRef::Plain(line) => line.len().saturating_add(1),
+        ItemRef::Section(before, count, after) => section_line_len(before, *count, after),
+        ItemRef::Subr(number, _, closing) => {
+            let kept = charstrings.subrs.get(number);
+            kept_line_len(operator, kept, closing)
+        }
+        ItemRef::Glyph(name, _, closing) => {
+            let kept = charstrings.glyphs.get(*name);
+            kept_line_len(operator, kept, closing)
+        }
     }
 }
 
@@ -106,7 +94,7 @@ fn items_len(charstrings: &Charstrings, operator: &[u8], items: &Items) -> usize
 {
     let mut total: usize = 0;
     for item in items.iter() {
-        total = total.saturating_add(line_ref_len(charstrings, operator, &item));
+        total = total.saturating_add(line_len(charstrings, operator, &item));
     }
     total
 }

@@ -7,12 +7,11 @@
 //! part of a file is too long; [`laws`] say what an edit makes of it.
 //!
 //! Edits go in two steps. [`put_fresh_subr`] and [`put_fresh_glyph`] fill the fresh charstrings of
-//! [`EditedEntries`]: those of the entries that were replaced or added; beside them stand the
-//! entries that are [`Gone`]. With these [`prepare_lines`] makes ready what changes of the
+//! [`EditedEntries`]: those of the entries that were replaced or added; beside them stand the keys
+//! of those that are gone. With these [`prepare_lines`] makes ready what changes of the
 //! charstrings and of the length of the private text, or gives the first fault of the edited
-//! source, which is known by a prepared change or as the one that a batch [`Made`];
-//! [`settle_lines`] puts it in its place, which can't fail. Where lenIV was edited all charstrings
-//! are encrypted anew; nothing of a source is copied.
+//! source, an `EditedSource` of `t1_source`; [`settle_lines`] puts it in its place, which can't
+//! fail. Where lenIV was edited all charstrings are encrypted anew; nothing of a source is copied.
 //!
 //! All of it is for the crates above.
 //!
@@ -34,7 +33,6 @@ mod files;
 pub mod laws;
 mod lengths;
 mod lines;
-mod made;
 mod preparing;
 mod raising;
 mod replacing;
@@ -42,11 +40,10 @@ mod settling;
 
 pub use batch::{batch_len, put_fresh_glyph, put_fresh_subr};
 pub use changed::{insert_glyph, insert_subr, make_room};
-pub use edited::{EditedEntries, Gone};
+pub use edited::EditedEntries;
 pub use encrypted::{charstrings_of, encrypted_glyph, encrypted_subr};
 pub use entries::{Charstrings, Entry, no_charstrings};
 pub use files::write_kept_file;
 pub use lengths::{check_length, entry_line_len, line_len, private_len, sections_len};
-pub use made::Made;
 pub use preparing::prepare_lines;
 pub use settling::{ReadyCharstrings, ReadyLines, settle_lines};

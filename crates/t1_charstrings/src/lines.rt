@@ -13,7 +13,6 @@ use indexmap::IndexMap;
 use std::alloc::{AllocError, Global};
 use t1_code::Piece;
 use t1_parts::{ItemRef, Items, push_decimal};
-use t1_source::Item;
 
 /// A line of the private text, ready to be written.
 #[derive(Drop)]
@@ -90,35 +89,6 @@ fn line_of<'a>(
     charstrings: &'a Charstrings,
     operator: &'a [u8],
     place: &mut usize,
-    item: &'a Item,
-) -> Result<KeptLine<'a>, AllocError>
-    ensures { IfOk result
-        (λ line. kept_line_text line ≡ kept_line charstrings.now operator.now item.now) }
-{
-    match item {
-        Item::Plain(line) => Ok(KeptLine::Plain(line.as_slice())),
-        Item::Section(before, count, after) => {
-            let text = section_text(alloc, before.as_slice(), *count, after.as_slice())?;
-            Ok(KeptLine::Text(text))
-        }
-        Item::Subr(number, _, closing) => {
-            let kept = charstrings.subrs.get(number);
-            Ok(entry_line(alloc, operator, kept, closing.as_slice()))
-        }
-        Item::Glyph(name, _, closing) => {
-            let kept = glyph_entry(&charstrings.glyphs, *place, name.as_slice());
-            *place = place.saturating_add(1);
-            Ok(entry_line(alloc, operator, kept, closing.as_slice()))
-        }
-    }
-}
-
-/// The line of an item, where it stands, after so many glyphs, which it raises where it is one.
-fn line_of_ref<'a>(
-    alloc: Global,
-    charstrings: &'a Charstrings,
-    operator: &'a [u8],
-    place: &mut usize,
     item: &ItemRef<'a, '_>,
 ) -> Result<KeptLine<'a>, AllocError>
     ensures { IfOk result
@@ -126,8 +96,20 @@ fn line_of_ref<'a>(
         kept_line_text line ≡ kept_line charstrings.now operator.now (item_of item.now)) }
 {
     match item {
-        ItemRef::Line(line) => Ok(KeptLine::Plain(line)),
-        ItemRef::Item(item) => line_of(alloc, charstrings, operator, place, item),
+        ItemRef::Plain(line) => Ok(KeptLine::Plain(line)),
+        ItemRef::Section(before, count, after) => {
+            let text = section_text(alloc, before, *count, after)?;
+            Ok(KeptLine::Text(text))
+        }
+        ItemRef::Subr(number, _, closing) => {
+            let kept = charstrings.subrs.get(number);
+            Ok(entry_line(alloc, operator, kept, closing))
+        }
+        ItemRef::Glyph(name, _, closing) => {
+            let kept = glyph_entry(&charstrings.glyphs, *place, name);
+            *place = place.saturating_add(1);
+            Ok(entry_line(alloc, operator, kept, closing))
+        }
     }
 }
 
@@ -146,7 +128,7 @@ pub(crate) fn lines_of<'a>(
     let mut lines = Vec::with_capacity(alloc, items.len())?;
     let mut place = 0;
     for item in items.iter() {
-        lines.push(line_of_ref(alloc, charstrings, operator, &mut place, &item)?)?;
+        lines.push(line_of(alloc, charstrings, operator, &mut place, &item)?)?;
     }
     Ok(lines)
 }

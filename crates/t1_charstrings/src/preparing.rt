@@ -1,27 +1,28 @@
 //! What edits make of the charstrings, before anything is changed.
 ghost use Rattle.std.specs.Prelude.{◌≡◌, ℕ, Ok, Err, IfOk, MatchResult, false, true};
 ghost use Rattle.t1_frac.specs.Outcome.{Gives};
+ghost use Rattle.t1_parts.specs.LenIV.{lead};
+ghost use Rattle.t1_source.specs.Changes.{is_entry_changed, made_after};
+ghost use Rattle.t1_source.specs.EditedSource.{made_of, may_set_lead};
 ghost use Rattle.t1_source.specs.Editing.{with_clear};
 ghost use Rattle.t1_font.specs.Assembly.{file_check};
 ghost use Rattle.t1_font.specs.Lengths.{IsPrivateLen};
 ghost use Rattle.t1_charstrings.specs.declared.settling.ReadyCharstrings.TheVariants as ready;
 ghost use Rattle.t1_charstrings.specs.Batch.{AreEdits};
 ghost use Rattle.t1_charstrings.specs.Changed.{AreSameCharstrings};
-ghost use Rattle.t1_charstrings.specs.Made.{is_entry_changed, made_after, made_of, may_set_lead};
-ghost use Rattle.t1_charstrings.specs.Made.{source_before_edits, IsPreparedByEdits, IsPreparedFor};
+ghost use Rattle.t1_charstrings.specs.Prepared.{IsMadeOf, IsPreparedFor};
 ghost use Rattle.t1_charstrings.specs.Ready.{IsReadyLines};
 
 use crate::anew::prepare_anew;
 use crate::batch::len_of_batch;
 use crate::edited::EditedEntries;
 use crate::entries::Charstrings;
-use crate::made::Made;
 use crate::replacing::{len_inserted, len_put, len_removed};
 use crate::settling::{ReadyLines, ready_entries};
 use std::alloc::Global;
 use t1_font::check_parts;
 use t1_frac::{Bytes, Fault, Refusal};
-use t1_source::{Change, Source};
+use t1_source::{Change, EditedSource, Source};
 
 /// How long the private text is where the clear part gets other lines: as before. F23 where these
 /// are too long.
@@ -75,22 +76,21 @@ fn len_changed(
 fn len_after(
     charstrings: &Charstrings,
     private_len: usize,
-    made: &Made,
+    source: &Source,
+    made: &EditedSource,
     entries: &EditedEntries,
 ) -> Result<usize, Fault>
-    requires prepared { IsPreparedByEdits made.now private_len }
-    requires lead { may_set_lead made.now ≡ false }
-    requires edits { AreEdits (source_before_edits made.now) (made_of made.now) charstrings.now
-        entries.now }
+    requires prepared { IsMadeOf source.now private_len made.now }
+    requires lead { may_set_lead source.now made.now ≡ false }
+    requires edits { AreEdits source.now (made_of made.now) charstrings.now entries.now }
     ensures judged { MatchResult result (λ _. file_check (made_of made.now) ≡ Ok tt)
         (λ fault. file_check (made_of made.now) ≡ Err fault) }
     ensures len { IfOk result (IsPrivateLen (made_of made.now)) }
+    ensures lead { lead (made_of made.now) ≡ lead source.now }
 {
-    match made {
-        Made::Edit { source, change } => {
-            len_changed(charstrings, private_len, source, change, entries)
-        }
-        Made::Batch { source, made } => len_of_batch(charstrings, source, made, entries),
+    match made.change() {
+        Some(change) => len_changed(charstrings, private_len, source, change, entries),
+        None => len_of_batch(charstrings, source, made.source(), entries),
     }
 }
 
@@ -103,21 +103,23 @@ pub fn prepare_lines(
     alloc: Global,
     charstrings: &mut Charstrings,
     private_len: usize,
-    made: &Made,
+    source: &Source,
+    made: &EditedSource,
     entries: EditedEntries,
 ) -> Result<ReadyLines, Refusal>
-    requires prepared { IsPreparedByEdits made.now private_len }
-    requires edits { AreEdits (source_before_edits made.now) (made_of made.now) charstrings.old
-        entries }
+    requires prepared { IsMadeOf source.now private_len made.now }
+    requires edits { AreEdits source.now (made_of made.now) charstrings.old entries }
     ensures same { AreSameCharstrings charstrings.old charstrings.new }
     ensures judged { Gives (λ _. tt) result (file_check (made_of made.now)) }
     ensures ready { IfOk result (IsReadyLines (made_of made.now) charstrings.new) }
     ensures edited { IfOk result
-        (λ lines. may_set_lead made.now ≡ false → lines.charstrings ≡ ready.Edited entries) }
+        (λ lines.
+        may_set_lead source.now made.now ≡ false
+        → lines.charstrings ≡ ready.Edited entries) }
 {
-    if made.may_set_lead() {
+    if made.may_set_lead(source) {
         return prepare_anew(alloc, made);
     }
-    let len = len_after(charstrings, private_len, made, &entries)?;
+    let len = len_after(charstrings, private_len, source, made, &entries)?;
     Ok(ready_entries(charstrings, entries, len)?)
 }

@@ -75,15 +75,16 @@ fn raised_count(before: &[u8], count: u64, needed: &Needed) -> u64
 }
 
 /// How long the raised line of a section is, up to 2^64 - 1; 0 for another item.
-fn raised_len(item: &Item, needed: &Needed) -> usize
+fn raised_len(item: &ItemRef, needed: &Needed) -> usize
     ensures { result
-        ≡ min (length (section_line (raised_item needed.now.subrs needed.now.glyphs item.now)))
+        ≡ min
+        (length
+        (section_line (raised_item needed.now.subrs needed.now.glyphs (item_of item.now))))
         (2 ^ 64 - 1) }
 {
     match item {
-        Item::Section(before, count, after) => {
-            let count = raised_count(before.as_slice(), *count, needed);
-            section_line_len(before.as_slice(), count, after.as_slice())
+        ItemRef::Section(before, count, after) => {
+            section_line_len(before, raised_count(before, *count, needed), after)
         }
         _ => 0,
     }
@@ -96,34 +97,13 @@ pub(crate) fn raised_sections_len(items: &Items, needed: &Needed) -> usize
 {
     let mut total: usize = 0;
     for item in items.through_sections().alone() {
-        total = total.saturating_add(raised_len(item, needed));
+        total = total.saturating_add(raised_len(&item.as_ref(), needed));
     }
     total
 }
 
 /// How long the line of an item is with a raised count, up to 2^64 - 1.
 fn raised_line_len(
-    charstrings: &Charstrings,
-    operator: &[u8],
-    item: &Item,
-    needed: &Needed,
-) -> usize
-    ensures { result
-        ≡ min
-        (length
-        (kept_line charstrings.now operator.now
-        (raised_item needed.now.subrs needed.now.glyphs item.now))) (2 ^ 64 - 1) }
-{
-    match item {
-        Item::Section(_, _, _) => raised_len(item, needed),
-        Item::Plain(_) => line_len(charstrings, operator, item),
-        Item::Subr(_, _, _) => line_len(charstrings, operator, item),
-        Item::Glyph(_, _, _) => line_len(charstrings, operator, item),
-    }
-}
-
-/// How long the line of an item, where it stands, is with a raised count, up to 2^64 - 1.
-fn raised_line_ref_len(
     charstrings: &Charstrings,
     operator: &[u8],
     item: &ItemRef,
@@ -137,8 +117,10 @@ fn raised_line_ref_len(
         (2 ^ 64 - 1) }
 {
     match item {
-        ItemRef::Line(line) => line.len().saturating_add(1),
-        ItemRef::Item(item) => raised_line_len(charstrings, operator, item, needed),
+        ItemRef::Section(_, _, _) => raised_len(item, needed),
+        ItemRef::Plain(_) => line_len(charstrings, operator, item),
+        ItemRef::Subr(_, _, _) => line_len(charstrings, operator, item),
+        ItemRef::Glyph(_, _, _) => line_len(charstrings, operator, item),
     }
 }
 
@@ -158,7 +140,7 @@ pub(crate) fn raised_items_len(
 {
     let mut total: usize = 0;
     for item in items.again() {
-        total = total.saturating_add(raised_line_ref_len(charstrings, operator, &item, needed));
+        total = total.saturating_add(raised_line_len(charstrings, operator, &item, needed));
     }
     total
 }

@@ -6,16 +6,16 @@ ghost use Rattle.t1_source.specs.Changes.{IsInPlaceOf};
 ghost use Rattle.t1_source.specs.Editing.{with_items};
 ghost use Rattle.t1_source.specs.WellFormed.{IsWellFormed};
 ghost use Rattle.t1_font.specs.Assembly.{file_check};
+ghost use Rattle.t1_parts.specs.Items.{is_entry};
 ghost use Rattle.t1_charstrings.specs.Batch.{AreEdits};
 ghost use Rattle.t1_font.specs.Lengths.{IsPrivateLen};
-ghost use Rattle.t1_charstrings.specs.Ready.{inserted_len, is_entry, new_len, old_len};
-ghost use Rattle.t1_charstrings.specs.Ready.{replaced_len};
+ghost use Rattle.t1_charstrings.specs.Ready.{inserted_len, new_len, old_len, replaced_len};
 ghost use Rattle.t1_charstrings.specs.Sums.{item_at};
 
 use crate::batch::batch_line_len;
 use crate::edited::EditedEntries;
 use crate::entries::Charstrings;
-use crate::lengths::{line_ref_len, sections_len};
+use crate::lengths::{line_len, sections_len};
 use crate::raising::{Needed, check_raised_sections, needed_with, raised_sections_len};
 use t1_font::check_parts;
 use t1_frac::Fault;
@@ -26,14 +26,14 @@ fn old_len(charstrings: &Charstrings, source: &Source, at: usize) -> usize
     requires { at < length source.now.items }
     ensures { result ≡ old_len charstrings.now source.now at }
 {
-    line_ref_len(charstrings, source.operator(), &source.items().item(at))
+    line_len(charstrings, source.operator(), &source.items().item(at))
 }
 
 /// How long the line of an item is by fresh charstrings over the old ones, up to 2^64 - 1.
 fn new_len(charstrings: &Charstrings, fresh: &Charstrings, source: &Source, item: &Item) -> usize
     ensures { result ≡ new_len fresh.now charstrings.now source.now item.now }
 {
-    batch_line_len(charstrings, fresh, source.operator(), item)
+    batch_line_len(charstrings, fresh, source.operator(), &item.as_ref())
 }
 
 /// How long the private text is with an entry in the place of another, up to 2^64 - 1.

@@ -49,12 +49,6 @@ within s (x ∷ front) h =
 pub some_of : (n : ℕ) → nat_eq n 0 ≡ false → 0 < n
 some_of n h = omega (arith, eqb-false n 0 h)
 
-pub room_opens : (s : Segmenting) → 1 ≤ (segment_opened s).size → 0 < (segment_opened s).room
-room_opens s = elim (cases_Bool (nat_eq s.room 0)) [
-  | inl e ↦ rw e (λ h. omega (arith, h))
-  | inr e ↦ rw e (λ h. omega (arith, eqb-false s.room 0 e))
-]
-
 -- no head is due where the segment takes more
 pub no_head : (s : Segmenting) → 0 < s.room → [] ≡ head_due s
 no_head s more = rw (some_is s.room more) refl

@@ -1,12 +1,16 @@
 //! How long the PFB and PFA files are, by sums over the lengths of the parts.
-ghost use Rattle.std.specs.Prelude.{◌≡◌, ◌<◌, ◌≤◌, ◌+◌, ◌-◌, ◌*◌, ◌^◌, List, ℕ, length};
+ghost use Rattle.std.specs.Prelude.{◌≡◌, ◌<◌, ◌≤◌, ◌+◌, ◌*◌, ◌^◌, List, ℕ, length};
 ghost use Rattle.t1_code.specs.Parts.{file_of, hexadecimal_file_of, length_of};
 ghost use Rattle.t1_code.specs.Pfa.{hexadecimal_lines};
 ghost use Rattle.t1_code.specs.Pfb.{blocks, segments};
 ghost use Rattle.t1_frac.specs.Outcome.{reported_at};
 ghost use Rattle.t1_frac.specs.declared.fault.Place.TheVariants.{Nowhere};
 
+use crate::block_size::BlockSize;
+use crate::form::FileForm;
 use crate::parts::Parts;
+use crate::pfa::Pfa;
+use crate::pfb::Pfb;
 use crate::pieces::private_part_len;
 use t1_frac::Code;
 
@@ -29,15 +33,14 @@ fn block_count(len: u64, size: u64) -> u64
 }
 
 /// How many bytes a part is in segments of this size, with their heads.
-fn segments_len(len: usize, size: usize) -> u64
-    requires some { 1 ≤ size }
+fn segments_len(len: usize, size: BlockSize) -> u64
     requires short { len < 2 ^ 31 }
     ensures len { (kind : ℕ) (bytes : List ℕ)
         → length bytes ≡ len
         → result ≡ length (segments size kind bytes) }
     ensures at_most { result ≤ 7 * 2 ^ 31 }
 {
-    len as u64 + HEAD_LEN * block_count(len as u64, size as u64)
+    len as u64 + HEAD_LEN * block_count(len as u64, size.get() as u64)
 }
 
 /// How many bytes the lines of hexadecimal digits of so many bytes have, with their ends.
@@ -53,9 +56,7 @@ fn lines_len(len: usize) -> u64
 }
 
 /// How many bytes `write_pfb` writes, or F23 where it refuses. It takes no memory.
-pub fn pfb_len(parts: &Parts, size: usize) -> Result<u64, Code>
-    requires some { 1 ≤ size }
-    requires short { size ≤ 2 ^ 31 - 1 }
+pub fn pfb_len(parts: &Parts, size: BlockSize) -> Result<u64, Code>
     ensures { reported_at Nowhere result ≡ length_of (file_of size parts.now) }
 {
     let private_len = private_part_len(parts)?;
@@ -72,4 +73,31 @@ pub fn pfa_len(parts: &Parts) -> Result<u64, Code>
     let private_len = private_part_len(parts)?;
     let private = lines_len(private_len);
     Ok(parts.clear.len() as u64 + private + parts.trailer.len() as u64)
+}
+
+/// A form whose file's length is known before it is written.
+pub trait FileLen: FileForm {
+    ghost use Rattle.std.specs.Prelude.{◌≡◌};
+    ghost use Rattle.t1_code.specs.Parts.{length_of, pieces_text};
+    ghost use Rattle.t1_frac.specs.Outcome.{reported_at};
+    ghost use Rattle.t1_frac.specs.declared.fault.Place.TheVariants.{Nowhere};
+
+    /// How many bytes the file of the parts has, or F23 where there is none. It takes no memory.
+    fn len(&self, parts: &Parts) -> Result<u64, Code>
+        ensures { reported_at Nowhere result
+            ≡ length_of
+            (Self.file self.now parts.now.clear.now (pieces_text parts.now)
+            parts.now.trailer.now) };
+}
+
+impl FileLen for Pfb {
+    fn len(&self, parts: &Parts) -> Result<u64, Code> {
+        pfb_len(parts, self.size)
+    }
+}
+
+impl FileLen for Pfa {
+    fn len(&self, parts: &Parts) -> Result<u64, Code> {
+        pfa_len(parts)
+    }
 }

@@ -3,9 +3,10 @@
 //!
 //! For users: [`compile`], [`assemble`] and [`encrypt`], with [`Body`], [`Command`] and
 //! [`standard_name`]; [`Counted`], in which every reader and writer is lent, and [`OutError`];
-//! [`Parts`] and [`Piece`] with [`write_pfb`], whole or in blocks ([`WHOLE_PARTS`]), and
-//! [`write_pfa`]. The rest is for the crates above: code added to what is there, the chunk before a
-//! writer, lengths of files, and both forms of a file as one ([`FileForm`]).
+//! [`Parts`] and [`Piece`] with [`write_pfb`], whole ([`WHOLE_PARTS`]) or in blocks, and
+//! [`write_pfa`]; [`BlockSize`], which `blocks_of` of `t1_calls` takes. The rest is for the crates
+//! above: code added to what is there, the chunk before a writer, lengths of files ([`FileLen`]),
+//! and both forms of a file as one ([`FileForm`]).
 //!
 //! What is proved, beside what the comment at each call says:
 //!
@@ -25,6 +26,7 @@
 //! - `standard_name`, `is_standard_name`, `standard_table`: the 149 names of StandardEncoding.
 
 mod assembly;
+mod block_size;
 mod body;
 mod charstring;
 mod chunk;
@@ -46,6 +48,7 @@ mod segments;
 mod words;
 
 pub use assembly::{assemble, assemble_onto, encrypt_words};
+pub use block_size::BlockSize;
 pub use body::Body;
 pub use charstring::encrypted_charstring;
 pub use chunk::{Chunk, put_plain, put_slices};
@@ -53,7 +56,7 @@ pub use cipher::encrypt;
 pub use command::Command;
 pub use counted::{Counted, MAX_PUT};
 pub use encoding::{is_standard_name, standard_name, standard_table};
-pub use file_len::{pfa_len, pfb_len};
+pub use file_len::{FileLen, pfa_len, pfb_len};
 pub use form::{FileForm, write_file};
 pub use parts::{OutError, Parts, Piece};
 pub use pfa::{Pfa, write_pfa};

@@ -1,10 +1,11 @@
 //! The PFB file, written part by part.
-ghost use Rattle.std.specs.Prelude.{◌≡◌, ◌≢◌, Err, ◌-◌, ◌^◌, ◌<◌, ◌≤◌, length};
+ghost use Rattle.std.specs.Prelude.{◌≡◌, ◌≢◌, Err, ◌-◌, ◌^◌, ◌≤◌, length};
 ghost use Rattle.t1_code.specs.Cipher.{eexec};
 ghost use Rattle.t1_code.specs.Writing.{Puts, outlet};
 ghost use Rattle.t1_code.specs.Parts.{pieces_text, file_of, Prints};
 ghost use Rattle.t1_code.specs.Pfb.{pfb};
 
+use crate::block_size::BlockSize;
 use crate::chunk::{Chunk, put_plain};
 use crate::counted::Counted;
 use crate::eexec::{EncryptedForm, put_private};
@@ -13,7 +14,6 @@ use crate::parts::{OutError, Parts};
 use crate::pieces::{MAX_PART, private_part_len};
 use crate::segments::{MARKER, Segmenter, put_part};
 use std::io::{self, Write};
-use std::marker::Model;
 
 /// The block length of a file that holds each part whole, in one segment.
 pub const WHOLE_PARTS: usize = MAX_PART;
@@ -33,15 +33,14 @@ fn put_file<W: Write>(
     out: &mut Counted<W>,
     chunk: &mut Chunk,
     parts: &Parts,
-    size: usize,
+    size: BlockSize,
     private_len: usize,
 ) -> io::Result<()>
-    requires some { 1 ≤ size }
-    requires short { size < 2 ^ 31 }
-    requires whole { private_len ≡ length (eexec (pieces_text parts.now)) }
+    requires { private_len ≡ length (eexec (pieces_text parts.now)) }
     ensures { Puts W.contents (outlet out.old chunk.old) (outlet out.new chunk.new)
         (pfb size parts.now.clear.now (pieces_text parts.now) parts.now.trailer.now) result }
 {
+    size.has_bytes();
     put_part(out, chunk, ASCII, size, parts.clear)?;
     let segmenter = Segmenter::begin(out, chunk, BINARY, size, private_len)?;
     put_private(out, chunk, EncryptedForm::Binary(segmenter), parts.pieces)?;
@@ -49,38 +48,18 @@ fn put_file<W: Write>(
     put_plain(out, chunk, &[MARKER, END])
 }
 
-/// The PFB form, in segments of so many bytes.
-#[derive(Drop)]
+/// The PFB form.
+#[derive(Clone, Copy)]
 pub struct Pfb {
-    size: usize,
-}
-
-impl Model for Pfb {
-    ghost use Rattle.std.specs.Prelude.{ℕ, ◌≤◌, ◌-◌, ◌^◌};
-
-    ghost Value = { ℕ };
-
-    ghost view = { λ form. form.size };
-
-    ghost invariant = { λ form. (1 ≤ form.size) × (form.size ≤ 2 ^ 31 - 1) };
-}
-
-impl Pfb {
-    /// Each part cut into segments of so many bytes, the last with the rest; an empty part is one
-    /// empty segment.
-    pub fn in_blocks(size: usize) -> Pfb
-        requires some { 1 ≤ size }
-        requires short { size ≤ 2 ^ 31 - 1 }
-        ensures { result ≡ size }
-    {
-        Pfb { size }
-    }
+    /// How many bytes a segment has, the last of a part the rest; an empty part is one empty
+    /// segment.
+    pub size: BlockSize,
 }
 
 impl FileForm for Pfb {
     ghost use Rattle.t1_code.specs.Pfb.{pfb_of};
 
-    ghost file = { pfb_of };
+    ghost file = { λ form. pfb_of form.size };
 
     fn put<W: Write>(
         &self,
@@ -104,5 +83,6 @@ pub fn write_pfb<W: Write>(parts: &Parts, size: usize, out: &mut Counted<W>) -> 
     ensures prints { Prints W.contents out.old out.new (file_of size parts.now) result }
     ensures no_memory { result ≢ Err OutError.Memory }
 {
-    write_file(&Pfb::in_blocks(size), parts, out)
+    let size = BlockSize::new(size);
+    write_file(&Pfb { size }, parts, out)
 }

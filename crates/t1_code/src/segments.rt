@@ -1,10 +1,11 @@
 //! A part of a PFB file, cut into segments.
-ghost use Rattle.std.specs.Prelude.{◌≡◌, ◌^◌, ◌<◌, ◌≤◌, min, IfOk, OnOk};
+ghost use Rattle.std.specs.Prelude.{◌≡◌, ◌^◌, ◌<◌, min, IfOk, OnOk};
 ghost use Rattle.t1_code.specs.Writing.{Puts, outlet};
 ghost use Rattle.t1_code.specs.Segments.{Segmenting, head_due, segment_opened, in_segments};
 ghost use Rattle.t1_code.specs.Segments.{segmenting_after};
 ghost use Rattle.t1_code.specs.Pfb.{segment_head as head, segments};
 
+use crate::block_size::BlockSize;
 use crate::chunk::{Chunk, put_plain};
 use crate::counted::Counted;
 use std::io::{self, Write};
@@ -26,20 +27,17 @@ fn segment_head(kind: u8, len: usize) -> [u8; 6]
 #[derive(Drop)]
 pub(crate) struct Segmenter {
     kind: u8,
-    size: usize,
+    size: BlockSize,
     room: usize,
     left: usize,
 }
 
 impl Model for Segmenter {
-    ghost use Rattle.std.specs.Prelude.{◌≤◌, ◌<◌, ◌^◌};
     ghost use Rattle.t1_code.specs.Segments.{Segmenting};
 
     ghost Value = { Segmenting };
 
     ghost view = { λ s. record { kind = s.kind; size = s.size; room = s.room; left = s.left } };
-
-    ghost invariant = { λ s. (1 ≤ s.size) × (s.size < 2 ^ 31) };
 }
 
 impl Segmenter {
@@ -48,22 +46,20 @@ impl Segmenter {
         out: &mut Counted<W>,
         chunk: &mut Chunk,
         kind: u8,
-        size: usize,
+        size: BlockSize,
         len: usize,
     ) -> io::Result<Segmenter>
-        requires some { 1 ≤ size }
-        requires short { size < 2 ^ 31 }
         ensures text { Puts W.contents (outlet out.old chunk.old) (outlet out.new chunk.new)
             (head kind (min size len)) result }
         ensures state { IfOk result
             (λ segmenter.
             segmenter ≡ record { kind = kind; size = size; room = size; left = len }) }
     {
-        put_plain(out, chunk, &segment_head(kind, size.min(len)))?;
+        put_plain(out, chunk, &segment_head(kind, size.get().min(len)))?;
         Ok(Segmenter {
             kind,
             size,
-            room: size,
+            room: size.get(),
             left: len,
         })
     }
@@ -73,6 +69,7 @@ impl Segmenter {
         ensures text { Puts W.contents (outlet out.old chunk.old) (outlet out.new chunk.new)
             (head_due self.old) result }
         ensures state { OnOk result (self.new ≡ segment_opened self.old) }
+        ensures room { OnOk result (0 < self.new.room) }
     {
         if self.room > 0 {
             return Ok(());
@@ -80,9 +77,9 @@ impl Segmenter {
         put_plain(
             out,
             chunk,
-            &segment_head(self.kind, self.size.min(self.left)),
+            &segment_head(self.kind, self.size.get().min(self.left)),
         )?;
-        self.room = self.size;
+        self.room = self.size.get();
         Ok(())
     }
 
@@ -115,14 +112,13 @@ pub(crate) fn put_part<W: Write>(
     out: &mut Counted<W>,
     chunk: &mut Chunk,
     kind: u8,
-    size: usize,
+    size: BlockSize,
     bytes: &[u8],
 ) -> io::Result<()>
-    requires some { 1 ≤ size }
-    requires short { size < 2 ^ 31 }
     ensures { Puts W.contents (outlet out.old chunk.old) (outlet out.new chunk.new)
         (segments size kind bytes.now) result }
 {
+    size.has_bytes();
     let mut segmenter = Segmenter::begin(out, chunk, kind, size, bytes.len())?;
     segmenter.put(out, chunk, bytes)
 }

@@ -2,8 +2,8 @@
 //!
 //! [`line_command`] and [`body_command`] make the [`SessionCommand`] of a line, and of a line with
 //! its body. [`put_answer`] writes an [`Answer`], [`put_fault`] a fault as answers have it;
-//! [`push_fault`] and [`push_rule`] add these to a text. [`PfbData`] and [`PfaData`] are the forms
-//! of a font file that is an answer, and not made in memory.
+//! [`push_fault`] and [`push_rule`] add these to a text. [`Data`] is the form of a font file that
+//! is an answer, and not made in memory.
 //!
 //! All of it is for `t1_refusal` and `t1_session`, and for the program, which takes [`put_fault`]
 //! and [`block_size_of_word`].
@@ -15,8 +15,8 @@
 //!   (`Makes`). `takes_body`, `ends_body`, `is_blank_line`: the values of the definitions of these
 //!   names (`is_wordless` for the third). `block_size`, `block_size_of_word`: a number word from 1
 //!   to 2147483647.
-//! - `put_answer`: `answer_text` is written, whole or up to a failed write. `PfbData`, `PfaData`: a
-//!   file as an answer's data, after its length.
+//! - `put_answer`: `answer_text` is written, whole or up to a failed write. `Data`: a file as an
+//!   answer's data, after its length.
 #![tactic(auto)]
 
 mod answer;
@@ -30,7 +30,7 @@ pub use answer::{Answer, answer_of, push_fault, push_rule, push_slices, put_answ
 pub use command::{
     SessionCommand, body_command, ends_body, is_blank_line, line_command, open_command, takes_body,
 };
-pub use data::{PfaData, PfbData};
+pub use data::Data;
 pub use numbers::{block_size, block_size_of_word};
 pub use print::Print;
 pub use show::Show;

@@ -1,8 +1,9 @@
 //! The numbers of a command.
-ghost use Rattle.std.specs.Prelude.{◌≡◌, ◌≤◌, ◌-◌, ◌^◌, IfSome};
+ghost use Rattle.std.specs.Prelude.{◌≡◌};
 ghost use Rattle.t1_commands.specs.Blocks.{block_size};
 ghost use Rattle.t1_commands.specs.Commands.{number_of};
 
+use t1_code::BlockSize;
 use t1_frac::number_word;
 
 /// The number of a word; the largest one, which no range has, for a word that is none or doesn't
@@ -15,23 +16,19 @@ pub fn number_of(word: &[u8]) -> i64
 }
 
 /// The block length of a number, from 1 to 2147483647.
-pub fn block_size(number: i64) -> Option<usize>
-    ensures value { result ≡ block_size number }
-    ensures some { IfSome result (λ size. 1 ≤ size) }
-    ensures short { IfSome result (λ size. size ≤ 2 ^ 31 - 1) }
+pub fn block_size(number: i64) -> Option<BlockSize>
+    ensures { result ≡ block_size number }
 {
     if 1 <= number && number <= 2_147_483_647 {
-        Some(number as usize)
+        Some(BlockSize::new(number as usize))
     } else {
         None
     }
 }
 
 /// The block length that a word gives: a number word from 1 to 2147483647.
-pub fn block_size_of_word(word: &[u8]) -> Option<usize>
-    ensures value { result ≡ block_size (number_of word.now) }
-    ensures some { IfSome result (λ size. 1 ≤ size) }
-    ensures short { IfSome result (λ size. size ≤ 2 ^ 31 - 1) }
+pub fn block_size_of_word(word: &[u8]) -> Option<BlockSize>
+    ensures { result ≡ block_size (number_of word.now) }
 {
     block_size(number_of(word))
 }

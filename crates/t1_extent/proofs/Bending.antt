@@ -108,7 +108,7 @@ ends_in_bend a b c d ha hb hc hd =
 
 -- ---- outlines
 
-pub sides_lowest : (s : Sides) → AreLowest (extremes_over 262144 s)
+pub sides_lowest : (s : Sides 38) → AreLowest (extremes_over 262144 s)
 sides_lowest s = record {
   left = canonical (record { num = s.left; den = 262144 }) (omega arith);
   bottom = canonical (record { num = s.bottom; den = 262144 }) (omega arith);

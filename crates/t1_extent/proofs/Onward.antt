@@ -4,7 +4,7 @@ use Rattle.std.specs.Prelude.{IfSome}
 use Rattle.std.specs.List.{AllByRecursion}
 use Rattle.t1_run.specs.declared.outline.Point.{Point}
 use Rattle.t1_run.specs.declared.outline.Segment.{Segment}
-use Rattle.t1_extent.specs.declared.whole_sides.WholeSides.{WholeSides}
+use Rattle.t1_extent.specs.declared.sides.Sides.{Sides}
 use Rattle.t1_extent.specs.Ends.{ends_of, ends, inner_of, inner}
 use Rattle.t1_extent.specs.Extremes.{Extremes, point_extremes, corners, extremes, reaching, unite_extremes}
 use Rattle.t1_extent.specs.Laws.{AreWithin}
@@ -18,7 +18,7 @@ use Rattle.t1_extent.proofs.Squeezing.{reaching_again}
 use Rattle.t1_extent.proofs.Summaries.{within_numbers, numbers}
 use Rattle.t1_extent.proofs.Uniting.{each_as, each_numbers, extremes_lowest, same_unite, unite_assoc, unite_lowest, unite_turned}
 
-pub whole_lowest : (s : WholeSides) → AreLowest (whole_extremes s)
+pub whole_lowest : (s : Sides 20) → AreLowest (whole_extremes s)
 whole_lowest s = record {
   left = canonical (record { num = s.left; den = 1 }) (omega arith);
   bottom = canonical (record { num = s.bottom; den = 1 }) (omega arith);
@@ -27,7 +27,7 @@ whole_lowest s = record {
 }
 
 -- two points, one after the other
-pub two_onto : (s x y : WholeSides) (m r : Extremes) (a b : Point) → m ≡ reaching (whole_extremes s) (whole_extremes x) → r ≡ reaching m (whole_extremes y)
+pub two_onto : (s x y : Sides 20) (m r : Extremes) (a b : Point) → m ≡ reaching (whole_extremes s) (whole_extremes x) → r ≡ reaching m (whole_extremes y)
     → whole_extremes x ≡ point_extremes a → whole_extremes y ≡ point_extremes b → Some r ≡ unite_extremes (Some (whole_extremes s)) (extremes (a ∷ b ∷ []))
 two_onto s x y m r a b first second is_a is_b =
     ap Some

@@ -10,7 +10,7 @@ use Rattle.t1_run.specs.declared.outline.Segment.TheVariants.{Line, Curve}
 use Rattle.t1_run.specs.Composite.{IsWithin}
 use Rattle.t1_afm.specs.Differences.{least_sum, greatest_sum}
 use Rattle.t1_afm.specs.Points.{points_of, points}
-use Rattle.t1_extent.specs.declared.whole_sides.WholeSides.{WholeSides}
+use Rattle.t1_extent.specs.declared.sides.Sides.{Sides}
 use Rattle.t1_extent.specs.Ends.{ends_of, ends}
 use Rattle.t1_extent.specs.Extremes.{Extremes, is_less, lesser, greater, reaching, extremes, unite_extremes, corners_of, corners, IsWhole, IsWholeSegment}
 use Rattle.t1_extent.specs.Laws.{AreWithin}
@@ -133,7 +133,7 @@ squeezed whole ended reached ss h k c e same is =
     ∙ outlines_united ends_of points_of points_of ss (each_of (IsUnion ends_of points_of points_of) ss ends_in_points h k)
 
 -- the numerators of whole coordinates
-pub same_sides : (left bottom right top : ℤ) (s : WholeSides) → left ≡ pos 262144 *ℤ s.left → bottom ≡ pos 262144 *ℤ s.bottom → right ≡ pos 262144 *ℤ s.right → top ≡ pos 262144 *ℤ s.top
+pub same_sides : (left bottom right top : ℤ) (s : Sides 20) → left ≡ pos 262144 *ℤ s.left → bottom ≡ pos 262144 *ℤ s.bottom → right ≡ pos 262144 *ℤ s.right → top ≡ pos 262144 *ℤ s.top
     → record { left = in_lowest_terms 262144 left; bottom = in_lowest_terms 262144 bottom; right = in_lowest_terms 262144 right; top = in_lowest_terms 262144 top } ≡ whole_extremes s
 same_sides left bottom right top s e f g h =
     same_extremes _ _ _ _ _ _ _ _

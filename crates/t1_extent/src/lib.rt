@@ -27,7 +27,6 @@ mod reached;
 mod shadow;
 mod sides;
 mod turns;
-mod whole_sides;
 mod wholes;
 
 pub use boxes::moved_box;

@@ -9,7 +9,7 @@ ghost use Rattle.t1_extent.specs.Extremes.{IsWhole, IsWholeSegment, corners as c
 ghost use Rattle.t1_extent.specs.Extremes.{extremes, is_whole_outline, unite_extremes as unite_of};
 ghost use Rattle.t1_extent.specs.Sides.{whole_extremes};
 
-use crate::whole_sides::WholeSides;
+use crate::sides::WholeSides;
 use crate::wholes::is_whole_segment;
 use t1_run::{Point, Segment};
 

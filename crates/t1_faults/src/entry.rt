@@ -11,7 +11,7 @@ use crate::entry_text::EntryText;
 use crate::placed::{PlacedWord, push_opened_words};
 use std::alloc::{AllocError, Global};
 use t1_frac::{Bytes, Place};
-use t1_parts::{Item, ItemRef, Items, opened_body};
+use t1_parts::{ItemRef, Items, opened_body};
 use t1_text::first_line;
 
 impl<'a> EntryText<'a> {
@@ -26,27 +26,14 @@ impl<'a> EntryText<'a> {
 }
 
 /// Whose an item is, where it is an entry.
-fn item_place(alloc: Global, item: &Item) -> Result<Option<Place>, AllocError>
-    ensures { IfOk result (λ place. place ≡ place_in item.now) }
-{
-    match item {
-        Item::Subr(number, _, _) => Ok(Some(Place::Subr(*number))),
-        Item::Glyph(name, _, _) => {
-            let name = Bytes::copied(alloc, name.as_slice())?;
-            Ok(Some(Place::Glyph(name)))
-        }
-        Item::Plain(_) => Ok(None),
-        Item::Section(_, _, _) => Ok(None),
-    }
-}
-
-/// The same of an item where it stands.
 fn place_of(alloc: Global, item: &ItemRef) -> Result<Option<Place>, AllocError>
     ensures { IfOk result (λ place. place ≡ place_in (item_of item.now)) }
 {
     match item {
-        ItemRef::Line(_line) => Ok(None),
-        ItemRef::Item(item) => item_place(alloc, item),
+        ItemRef::Subr(number, _, _) => Ok(Some(Place::Subr(*number))),
+        ItemRef::Glyph(name, _, _) => Ok(Some(Place::Glyph(Bytes::copied(alloc, name)?))),
+        ItemRef::Plain(_) => Ok(None),
+        ItemRef::Section(_, _, _) => Ok(None),
     }
 }
 

@@ -11,6 +11,7 @@ pub mod MeasuredGlyphs
 pub mod Metrics
 pub mod MetricsByRuns
 pub mod Names
+pub mod OwnedKeys
 pub mod RunCounts
 pub mod Runs
 pub mod SourceChecks

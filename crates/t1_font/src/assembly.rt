@@ -1,5 +1,5 @@
 //! A source assembled to its PFB file.
-ghost use Rattle.std.specs.Prelude.{◌≡◌, ◌≤◌, ◌-◌, ◌^◌, IfOk};
+ghost use Rattle.std.specs.Prelude.{◌≡◌, IfOk};
 ghost use Rattle.t1_text.specs.Lines.{joined};
 ghost use Rattle.t1_code.specs.Parts.{Prints};
 ghost use Rattle.t1_font.specs.Assembly.{file_in, source_file, source_pfa, trailer_text};
@@ -7,7 +7,7 @@ ghost use Rattle.t1_font.specs.Assembly.{file_in, source_file, source_pfa, trail
 use crate::private::private_text_of;
 use std::alloc::{AllocError, Global};
 use std::io::Write;
-use t1_code::{Counted, FileForm, OutError, Parts, Pfa, Pfb, Piece, write_file};
+use t1_code::{BlockSize, Counted, FileForm, OutError, Parts, Pfa, Pfb, Piece, write_file};
 use t1_frac::Bytes;
 use t1_parts::push_lines;
 use t1_source::Source;
@@ -93,21 +93,19 @@ fn write_source<F: FileForm, W: Write>(
     write_private(alloc, source, form, &private, out)
 }
 
-/// Writes the PFB file of a source in segments of so many bytes, [`WHOLE_PARTS`] for one a part:
-/// the whole file at `Ok`, a beginning of it at `Write`. A fault is the first of the bodies, at its
-/// entry, else F23; nothing is written then, nor where memory runs out.
+/// Writes the PFB file of a source in segments of so many bytes: the whole file at `Ok`, a
+/// beginning of it at `Write`. A fault is the first of the bodies, at its entry, else F23; nothing
+/// is written then, nor where memory runs out.
 #[tactic(auto, unfolding(crate::specs::Assembly::source_file))]
 pub fn write_source_pfb<W: Write>(
     alloc: Global,
     source: &Source,
-    size: usize,
+    size: BlockSize,
     out: &mut Counted<W>,
 ) -> Result<(), OutError>
-    requires some { 1 ≤ size }
-    requires short { size ≤ 2 ^ 31 - 1 }
     ensures { Prints W.contents out.old out.new (source_file size source.now) result }
 {
-    write_source(alloc, source, &Pfb::in_blocks(size), out)
+    write_source(alloc, source, &Pfb { size }, out)
 }
 
 /// Writes the PFA file of a source, with the answers of `write_source_pfb`.

@@ -12,7 +12,7 @@ use crate::numbers::SubrNumbers;
 use std::alloc::Global;
 use t1_afm::{BBox, unite};
 use t1_extent::{KeptRun, KeptRuns, box_of};
-use t1_frac::{Bytes, Code, Place, Refusal, SourceText};
+use t1_frac::{Bytes, Code, Refusal, SourceText};
 use t1_run::{Point, accent_move};
 
 /// The parts of a composite, and how far its accent is moved.
@@ -106,6 +106,7 @@ fn unplaced_metrics<'a, R: KeptRuns>(
 }
 
 /// What is measured of a glyph, or its first fault, at the glyph.
+#[tactic(auto, using(t1_frac::proofs::OutcomeLaws::refuses_at))]
 pub(crate) fn placed_metrics<'a, R: KeptRuns>(
     alloc: Global,
     runs: &R,
@@ -117,7 +118,7 @@ pub(crate) fn placed_metrics<'a, R: KeptRuns>(
         (reported_at (places.Glyph name.now) (glyph_metrics_at (R.drawn runs.now) name.now)) }
 {
     match unplaced_metrics(alloc, runs, name) {
-        Err(refusal) => Err(refusal.at(Place::Glyph(Bytes::copied(alloc, name)?))),
+        Err(refusal) => Err(refusal.at_glyph(alloc, name)),
         glyph => glyph,
     }
 }

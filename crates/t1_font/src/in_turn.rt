@@ -25,7 +25,7 @@ use crate::standard_names::StandardNames;
 use std::alloc::{AllocError, Global};
 use t1_code::{Command, compile_onto};
 use t1_extent::KeptRun;
-use t1_frac::{Bytes, Code, Place, Refusal, SourceText, Words};
+use t1_frac::{Code, Refusal, SourceText, Words};
 use t1_run::{Meter, Segment};
 
 /// What is reported of a glyph at its turn.
@@ -173,7 +173,7 @@ fn compile_glyph(
 {
     body.clear();
     match compile_onto(body, words) {
-        Err(refusal) => Err(refusal.at(Place::Glyph(Bytes::copied(alloc, name)?))),
+        Err(refusal) => Err(refusal.at_glyph(alloc, name)),
         compiled => compiled,
     }
 }

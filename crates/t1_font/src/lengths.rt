@@ -60,39 +60,25 @@ fn max_entry_len(lead: u8, operator: &[u8], head: usize, words: &Words, closing:
 }
 
 /// The most bytes that the line of an item can have.
-fn max_line_len(lead: u8, operator: &[u8], item: &Item) -> usize
-    ensures { result < 2 ^ 31
-        → IfOk (item_line lead operator.now item.now) (λ line. length line ≤ result) }
-{
-    match item {
-        Item::Plain(line) => line.as_slice().len().saturating_add(1),
-        Item::Section(before, count, after) => {
-            let digits = Buffer::new().format(*count).len();
-            let text = before
-                .as_slice()
-                .len()
-                .saturating_add(after.as_slice().len());
-            text.saturating_add(digits).saturating_add(1)
-        }
-        Item::Subr(number, words, closing) => {
-            let head = 4 + Buffer::new().format(*number).len();
-            max_entry_len(lead, operator, head, words, closing.as_slice())
-        }
-        Item::Glyph(name, words, closing) => {
-            let head = name.as_slice().len().saturating_add(1);
-            max_entry_len(lead, operator, head, words, closing.as_slice())
-        }
-    }
-}
-
-/// The most bytes that the line of an item where it stands can have.
-fn max_line_ref_len(lead: u8, operator: &[u8], item: &ItemRef) -> usize
+fn max_line_len(lead: u8, operator: &[u8], item: &ItemRef) -> usize
     ensures { result < 2 ^ 31
         → IfOk (item_line lead operator.now (item_of item.now)) (λ line. length line ≤ result) }
 {
     match item {
-        ItemRef::Line(line) => line.len().saturating_add(1),
-        ItemRef::Item(item) => max_line_len(lead, operator, item),
+        ItemRef::Plain(line) => line.len().saturating_add(1),
+        ItemRef::Section(before, count, after) => {
+            let digits = Buffer::new().format(*count).len();
+            let text = before.len().saturating_add(after.len());
+            text.saturating_add(digits).saturating_add(1)
+        }
+        ItemRef::Subr(number, words, closing) => {
+            let head = 4 + Buffer::new().format(*number).len();
+            max_entry_len(lead, operator, head, words, closing)
+        }
+        ItemRef::Glyph(name, words, closing) => {
+            let head = name.len().saturating_add(1);
+            max_entry_len(lead, operator, head, words, closing)
+        }
     }
 }
 
@@ -103,7 +89,7 @@ fn max_private_len(lead: u8, operator: &[u8], items: &Items) -> usize
 {
     let mut total: usize = 0;
     for item in items.iter() {
-        total = total.saturating_add(max_line_ref_len(lead, operator, &item));
+        total = total.saturating_add(max_line_len(lead, operator, &item));
     }
     total
 }

@@ -50,6 +50,7 @@ mod kern;
 pub mod laws;
 mod lengths;
 mod numbers;
+mod owned_key;
 mod private;
 mod reported;
 mod runs;
@@ -68,6 +69,7 @@ pub use glyph_metrics::{GlyphMetrics, PlacedParts, glyph_metrics_of, metrics_of_
 pub use glyphs::{MeasuredGlyphs, glyph_names};
 pub use lengths::{TEN_DIGITS, check_counts, check_parts, checked_bodies};
 pub use numbers::SubrNumbers;
+pub use owned_key::OwnedKey;
 pub use runs::{Runs, runs_of};
 pub use turns::measured_glyphs;
 pub use usage::usage_text;

@@ -13,9 +13,8 @@ ghost use Rattle.t1_font.specs.Lengths.{private_length};
 use itoa::Buffer;
 use std::alloc::{AllocError, Global};
 use t1_code::encrypt_words;
-use t1_frac::{Bytes, Place, Refusal, Words};
+use t1_frac::{Place, Refusal, Words};
 use t1_parts::{ItemRef, Items, push_line};
-use t1_source::Item;
 
 /// Adds a section line with its count and its end.
 fn push_section(
@@ -118,6 +117,7 @@ fn encrypt_subr(code: &mut Vec<u8>, lead: u8, number: u16, words: &Words) -> Res
 }
 
 /// Puts the encrypted charstring of a glyph in the place of what the buffer holds.
+#[tactic(auto, using(t1_frac::proofs::OutcomeLaws::refuses_at))]
 fn encrypt_glyph(
     alloc: Global,
     code: &mut Vec<u8>,
@@ -129,7 +129,7 @@ fn encrypt_glyph(
         (reported_at (places.Glyph name.now) (encrypted_words lead words.now)) }
 {
     match encrypt_words(code, lead, words) {
-        Err(refusal) => Err(refusal.at(Place::Glyph(Bytes::copied(alloc, name)?))),
+        Err(refusal) => Err(refusal.at_glyph(alloc, name)),
         encrypted => encrypted,
     }
 }
@@ -143,43 +143,22 @@ fn push_item(
     code: &mut Vec<u8>,
     lead: u8,
     operator: &[u8],
-    item: &Item,
-) -> Result<(), Refusal>
-    ensures { Gives (λ _. text.new.items) result
-        (put_after text.old.items (item_line lead operator.now item.now)) }
-{
-    match item {
-        Item::Plain(line) => Ok(push_line(text, line.as_slice())?),
-        Item::Section(before, count, after) => {
-            Ok(push_section(text, before.as_slice(), *count, after.as_slice())?)
-        }
-        Item::Subr(number, words, closing) => {
-            encrypt_subr(code, lead, *number, words)?;
-            Ok(push_subr(text, operator, *number, code, closing.as_slice())?)
-        }
-        Item::Glyph(name, words, closing) => {
-            let name = name.as_slice();
-            encrypt_glyph(alloc, code, lead, name, words)?;
-            Ok(push_glyph(text, operator, name, code, closing.as_slice())?)
-        }
-    }
-}
-
-/// Adds the line of an item where it stands.
-fn push_item_ref(
-    alloc: Global,
-    text: &mut Vec<u8>,
-    code: &mut Vec<u8>,
-    lead: u8,
-    operator: &[u8],
     item: &ItemRef,
 ) -> Result<(), Refusal>
     ensures { Gives (λ _. text.new.items) result
         (put_after text.old.items (item_line lead operator.now (item_of item.now))) }
 {
     match item {
-        ItemRef::Line(line) => Ok(push_line(text, line)?),
-        ItemRef::Item(item) => push_item(alloc, text, code, lead, operator, item),
+        ItemRef::Plain(line) => Ok(push_line(text, line)?),
+        ItemRef::Section(before, count, after) => Ok(push_section(text, before, *count, after)?),
+        ItemRef::Subr(number, words, closing) => {
+            encrypt_subr(code, lead, *number, words)?;
+            Ok(push_subr(text, operator, *number, code, closing)?)
+        }
+        ItemRef::Glyph(name, words, closing) => {
+            encrypt_glyph(alloc, code, lead, name, words)?;
+            Ok(push_glyph(text, operator, name, code, closing)?)
+        }
     }
 }
 
@@ -195,7 +174,7 @@ pub fn private_text_of(
     let mut text = Vec::new(alloc);
     let mut code = Vec::new(alloc);
     for item in items.iter() {
-        push_item_ref(alloc, &mut text, &mut code, lead, operator, &item)?;
+        push_item(alloc, &mut text, &mut code, lead, operator, &item)?;
     }
     Ok(text)
 }
@@ -215,7 +194,7 @@ pub(crate) fn private_text_len(
     let mut total: usize = 0;
     for item in items.iter() {
         line.clear();
-        push_item_ref(alloc, &mut line, &mut code, lead, operator, &item)?;
+        push_item(alloc, &mut line, &mut code, lead, operator, &item)?;
         total = total.saturating_add(line.len());
     }
     Ok(total)

@@ -1,4 +1,5 @@
 -- Refusals, as the code lifts them.
+use Rattle.std.specs.Prelude.{◌≡◌}
 use Rattle.t1_frac.specs.declared.fault.Code.{Code}
 use Rattle.t1_frac.specs.declared.fault.Fault.{Fault}
 use Rattle.t1_frac.specs.declared.fault.Place.{Place}
@@ -15,3 +16,8 @@ refusal code = refusals.Fault (fault_at Nowhere code)
 abbrev pub placed : Place → Refusal → Refusal
 placed place (refusals.Fault fault) = refusals.Fault (fault_at place fault.code)
 placed place refusals.Memory = refusals.Memory
+
+-- word, faults: a refusal that is another one with its fault reported at this place, unless memory ran out
+abbrev pub IsPlaced : Place → Refusal → Refusal → Type 0
+IsPlaced place refused refusals.Memory = Unit {0}
+IsPlaced place refused (refusals.Fault fault) = placed place refused ≡ refusals.Fault fault

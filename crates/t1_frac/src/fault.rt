@@ -1,5 +1,5 @@
 use crate::bytes::Bytes;
-use std::alloc::{AllocError, AllocFailed};
+use std::alloc::{AllocError, AllocFailed, Global};
 use thiserror::Error;
 
 /// Why a source, a body or a run is refused, by the code that is printed.
@@ -105,7 +105,8 @@ pub enum Refusal {
 
 impl Refusal {
     ghost use Rattle.std.specs.Prelude.{◌≡◌};
-    ghost use Rattle.t1_frac.specs.Refusals.{placed};
+    ghost use Rattle.t1_frac.specs.Refusals.{placed, IsPlaced};
+    ghost use Rattle.t1_frac.specs.declared.fault.Place.TheVariants.{Glyph};
 
     /// The same refusal, its fault at this place.
     pub fn at(self, place: Place) -> Refusal
@@ -117,6 +118,17 @@ impl Refusal {
                 place,
             }),
             Refusal::Memory => Refusal::Memory,
+        }
+    }
+
+    /// The same refusal, its fault at the glyph of this name; or out of memory for a copy of the
+    /// name.
+    pub fn at_glyph(self, alloc: Global, name: &[u8]) -> Refusal
+        ensures { IsPlaced (Glyph name.now) self result }
+    {
+        match Bytes::copied(alloc, name) {
+            Ok(name) => self.at(Place::Glyph(name)),
+            Err(error) => Refusal::from(error),
         }
     }
 }

@@ -1,6 +1,6 @@
 -- What edits make of the charstrings that are held.
-use Rattle.std.proofs.Common.{◌≡◌, ◌<◌, ◌+◌, ℕ, Bool, true, false, cond, ◌&&◌, ◌||◌, List, [], ◌∷◌, map, drop, get_or, length, Option, None, Result, Ok, Err, refl, ap, sym, ◌∙◌}
-use Rattle.std.specs.Prelude.{is_none, MatchResult}
+use Rattle.std.proofs.Common.{◌≡◌, ◌<◌, ◌+◌, ℕ, Bool, true, false, cond, ◌&&◌, ◌||◌, List, [], ◌∷◌, map, drop, get_or, length, Option, None, Result, Ok, Err, refl, ap, sym, ◌∙◌, subst}
+use Rattle.std.specs.Prelude.{is_none, IfOk, MatchResult}
 use Rattle.std.specs.List.{AllByRecursion, list_any}
 use Rattle.std.specs.Option.{option_map, option_or}
 use Rattle.t1_parts.specs.LenIV.{lead}
@@ -9,26 +9,25 @@ use Rattle.t1_run.specs.Run.{Key}
 use Rattle.t1_run.specs.RunKeys.{body_at, key_eq}
 use Rattle.t1_font.specs.Bodies.{bodies, bodies_check}
 use Rattle.t1_font.proofs.Compiling.{or-assoc, or-none}
-use Rattle.t1_charstrings.specs.declared.edited.Gone.{Gone}
+use Rattle.t1_font.specs.declared.owned_key.OwnedKey.{OwnedKey}
 use Rattle.t1_charstrings.specs.declared.entries.Charstrings.{Charstrings}
 use Rattle.t1_charstrings.specs.declared.edited.EditedEntries.{EditedEntries}
-use Rattle.t1_charstrings.specs.Batch.{gone_key, is_gone, AreEdits, AreFresh, AreGone}
+use Rattle.t1_charstrings.specs.Batch.{is_gone, AreEdits, AreFresh, AreGone}
 use Rattle.t1_charstrings.specs.Entries.{KeptCharstring, encrypted}
 use Rattle.t1_charstrings.specs.Kept.{charstring_at}
-use Rattle.t1_cache.specs.EditKeys.{key_of}
+use Rattle.t1_font.specs.OwnedKeys.{key_of}
 use Rattle.t1_font.proofs.Keys.{key-same}
 use Rattle.t1_rerun.specs.declared.entry_change.EntryChange.{EntryChange}
 use Rattle.t1_rerun.specs.Settled.{changed_keys, AreDistinctKeys, HasBody}
 use Rattle.t1_source.specs.WellFormed.{IsWellFormed}
-use Rattle.t1_source.specs.declared.editing.change.Change.{Change}
-use Rattle.t1_source.specs.declared.editing.change.Change.TheVariants as changes
-use Rattle.t1_source.specs.Changes.{changed}
-use Rattle.t1_pairs.specs.declared.pairs.Pair.{Pair}
+use Rattle.t1_source.specs.EditedSource.{made_of}
 use Rattle.t1_font.specs.Assembly.{file_check}
+use Rattle.t1_font.specs.Glyphs.{glyph_names}
 use Rattle.t1_charstrings.specs.Kept.{AreEncrypted}
 use Rattle.t1_cache.specs.Edited.{stale, IsEditedAt}
 use Rattle.t1_cache.specs.Recorded.{RecordedGlyph as KeptGlyph}
 use Rattle.t1_cache.proofs.Distinct.{names_distinct}
+use Rattle.t1_rerun.specs.Changing.{AreChangesOf}
 use Rattle.t1_rerun.specs.Opened.{runs_where}
 use Rattle.t1_rerun.specs.Renewing.{IsRunWhereStale}
 use Rattle.t1_rerun.proofs.ChangedBodies.{change-first}
@@ -38,9 +37,7 @@ use Rattle.t1_held.proofs.Members.{same_stale, same_stale_glyphs}
 use Rattle.t1_held.specs.declared.held.Held.{Held}
 use Rattle.t1_held.specs.Entries.{fresh_in, fresh_one, gone_keys}
 use Rattle.t1_held.specs.declared.edits.Edits.{Edits}
-use Rattle.t1_held.specs.declared.edits.Edits.TheVariants as edits
-use Rattle.t1_charstrings.specs.Made.{made_of as made_in, source_before_edits as source_in}
-use Rattle.t1_held.specs.Edits.{made_by, edits_made, edits_source, AreChanges, AreRight}
+use Rattle.t1_held.specs.Edits.{AreChanges, AreRight}
 use Rattle.t1_held.specs.Ready.{commit_runs}
 use Rattle.t1_held.specs.Held.{IsHeld}
 
@@ -92,7 +89,7 @@ fresh-are front made changes fresh distinct has are k =
 
 -- ---- the entries that are gone
 
-gone-among : (k : Key) (gone : List Gone) → is_gone gone k ≡ list_any (key_eq k) (map gone_key gone)
+gone-among : (k : Key) (gone : List OwnedKey) → is_gone gone k ≡ list_any (key_eq k) (map key_of gone)
 gone-among k [] = refl
 gone-among k (g ∷ gone) = rw (gone-among k gone) refl
 
@@ -133,8 +130,8 @@ module _ (made : SourceParts) (k : Key) where
         by true false gone off rest = rest
         by false false gone off rest = rest
 
-gone-are : (made : SourceParts) (changes : List EntryChange) (gone : List Gone) → AreDistinctKeys (changed_keys changes)
-    → AllByRecursion (HasBody made) changes → map gone_key gone ≡ gone_keys changes → AreGone (changed_keys changes) made gone
+gone-are : (made : SourceParts) (changes : List EntryChange) (gone : List OwnedKey) → AreDistinctKeys (changed_keys changes)
+    → AllByRecursion (HasBody made) changes → map key_of gone ≡ gone_keys changes → AreGone (changed_keys changes) made gone
 gone-are made changes gone distinct has are k =
     gone-among k gone ∙ ap (list_any (key_eq k)) are ∙ gone-at made k changes distinct has
 
@@ -142,7 +139,7 @@ gone-are made changes gone distinct has are k =
 
 pub edits_are : (s made : SourceParts) (changes : List EntryChange) (c : Charstrings) (entries : EditedEntries) → AreEncrypted s c → IsWellFormed made
     → bodies_check made.items ≡ Ok tt → IsEditedAt (changed_keys changes) s made → AreDistinctKeys (changed_keys changes) → AllByRecursion (HasBody made) changes
-    → ((k : Key) → charstring_at entries.fresh k ≡ fresh_in (lead s) changes k) → map gone_key entries.gone.items ≡ gone_keys changes → AreEdits s made c entries
+    → ((k : Key) → charstring_at entries.fresh k ≡ fresh_in (lead s) changes k) → map key_of entries.gone.items ≡ gone_keys changes → AreEdits s made c entries
 edits_are s made changes c entries kept well sound edited distinct has fresh gone = record {
   keys = changed_keys changes;
   edit = record { kept = kept; well = well; sound = sound; same = edited.bodies };
@@ -193,26 +190,14 @@ pub mapped : {X E : Type 0} (P Q : X → Type 0) (R : E → Type 0) (r : Result 
 mapped P Q R (Ok x) more h = more x h
 mapped P Q R (Err e) more h = h
 
--- ---- how the edited source is known
+-- the same, of the value alone
+pub mapped_ok : {X E : Type 0} (P Q : X → Type 0) (r : Result X E) → ((x : X) → P x → Q x) → IfOk r P → IfOk r Q
+mapped_ok P Q (Ok x) more h = more x h
+mapped_ok P Q (Err e) more h = tt
 
--- a change makes the same source, whatever the pairs
-source_alone : (change : Change) (s : SourceParts) (k : List Pair) → (changed change s []).0 ≡ (changed change s k).0
-source_alone (changes.PutItem at item) s k = refl
-source_alone (changes.InsertItem at item) s k = refl
-source_alone (changes.RemoveItem at) s k = refl
-source_alone (changes.PutClear lines) s k = refl
-source_alone (changes.PutPair at pair) s k = refl
-source_alone (changes.InsertPair at pair) s k = refl
-source_alone (changes.RemovePair at) s k = refl
-
-pub source_by : (e : Edits) → source_in (made_by e) ≡ edits_source e
-source_by (edits.One source pairs edit change) = refl
-source_by (edits.Batch source made entries) = refl
-
-pub made_is : (e : Edits) → made_in (made_by e) ≡ edits_made e
-made_is (edits.One source pairs edit change) = source_alone change.now source.now pairs.now
-made_is (edits.Batch source made entries) = refl
-
-pub right_held : (e : Edits) (h : Held) → AreRight e h → IsHeld (edits_source e) h
-right_held (edits.One source pairs edit change) h right = right.held
-right_held (edits.Batch source made entries) h right = right.0
+-- what edits change, by the order in which the glyphs of the source stand that they make
+pub changes_of : (ks : List Key) (made : SourceParts) (h : Held) (e : Edits) → AreRight ks made h e → file_check (made_of e.made) ≡ Ok tt
+    → AreChangesOf e.changes.items e.source.now made h.records (glyph_names (made_of e.made).items)
+changes_of ks made h e right file =
+    subst (λ (m : SourceParts). AreChangesOf e.changes.items e.source.now made h.records (glyph_names m.items)) (sym right.made)
+    (right.changes.prepared (subst (λ m. file_check m ≡ Ok tt) right.made file))

@@ -8,7 +8,7 @@ use Rattle.t1_frac.specs.declared.fault.Refusal.TheVariants as refusals
 use Rattle.t1_frac.specs.Outcome.{◌>>=◌, Refuses}
 use Rattle.t1_parts.specs.declared.item.Item.{Item}
 use Rattle.t1_run.specs.Run.{Key}
-use Rattle.t1_cache.specs.EditKeys.{key_of}
+use Rattle.t1_font.specs.OwnedKeys.{key_of}
 use Rattle.t1_rerun.specs.declared.entry_change.EntryChange.{EntryChange}
 use Rattle.t1_held.specs.declared.batch.entries.EditedEntry.{EditedEntry}
 use Rattle.t1_held.specs.Passing.{all_marked, all_removed, after_item, after_items, changes_by, item_put, items_put, none_sought, removed_at, without_key, Sought}

@@ -1,5 +1,6 @@
 -- What is held of a source, and of an edited one.
-use Rattle.std.proofs.Common.{◌≡◌, ℕ, true, List, Option, Result, Ok, Err, refl, ap, sym, ◌∙◌, subst, arith}
+use Rattle.std.proofs.Common.{◌≡◌, ℕ, true, List, Option, None, Some, Result, Ok, Err, refl, ap, sym, ◌∙◌, subst, arith}
+use Rattle.std.specs.Prelude.{IfSome}
 use Rattle.std.specs.List.{list_all, list_any, AllByRecursion}
 use Rattle.std.specs.Option.{option_to_list}
 use Rattle.t1_frac.specs.declared.fault.Fault.{Fault}
@@ -15,11 +16,13 @@ use Rattle.t1_parts.specs.Reading.{reads}
 use Rattle.t1_source.specs.declared.edit.Edit.{Edit}
 use Rattle.t1_source.specs.declared.editing.change.Change.{Change}
 use Rattle.t1_pairs.specs.declared.pairs.Pair.{Pair}
-use Rattle.t1_source.specs.Changes.{changed}
+use Rattle.t1_source.specs.Changes.{changed, IsFor}
+use Rattle.t1_source.specs.EditedSource.{made_of, EditedParts}
 use Rattle.t1_source.specs.WellFormed.{is_counted, IsWellFormed}
+use Rattle.t1_source.proofs.EditedSourceLaws.{source_alone}
 use Rattle.t1_source.proofs.WellFormedEditedLaws.{edited_well_formed}
 use Rattle.t1_source.proofs.WellFormedSourceLaws.{source_well_formed}
-use Rattle.t1_run.specs.Run.{Subr, Glyph}
+use Rattle.t1_run.specs.Run.{Key, Subr, Glyph}
 use Rattle.t1_run.specs.RunKeys.{key_eq}
 use Rattle.t1_font.specs.Assembly.{file_check}
 use Rattle.t1_font.specs.Glyphs.{glyph_names}
@@ -32,7 +35,7 @@ use Rattle.t1_charstrings.specs.Entries.{glyph_charstring, subr_charstring}
 use Rattle.t1_charstrings.specs.Kept.{AreEncrypted, Encrypt}
 use Rattle.t1_font.specs.Lengths.{IsPrivateLen}
 use Rattle.t1_cache.specs.declared.records.Records.{Records}
-use Rattle.t1_charstrings.specs.Made.{IsPreparedByEdits}
+use Rattle.t1_charstrings.specs.Prepared.{IsMadeOf, IsPreparedFor}
 use Rattle.t1_cache.specs.Edited.{IsEditedAt}
 use Rattle.t1_cache.specs.EditKeys.{named}
 use Rattle.t1_cache.proofs.Distinct.{names_distinct}
@@ -46,8 +49,9 @@ use Rattle.t1_rerun.proofs.Judged.{still-right}
 use Rattle.t1_held.specs.declared.held.Held.{Held}
 use Rattle.t1_held.specs.Held.{IsHeld}
 use Rattle.t1_held.specs.declared.edits.Edits.{Edits}
-use Rattle.t1_held.specs.declared.edits.Edits.TheVariants as edits
-use Rattle.t1_held.specs.Edits.{made_by, edits_made, AreChanges, AreRight, IsPreparedEdit}
+use Rattle.t1_held.specs.Batch.{EntryEdit, keys}
+use Rattle.t1_held.specs.Drafting.{IsEditedBy}
+use Rattle.t1_held.specs.Edits.{AreChanges, AreRight, IsPreparedEdit}
 use Rattle.t1_font.specs.Glyphs.{Glyph as Reported}
 use Rattle.t1_font.specs.MeasuredGlyphs.{MeasuredFont, measured}
 use Rattle.t1_font.specs.SourceChecks.{measured_source}
@@ -152,14 +156,34 @@ held_well s h held again = checked_well s (right_checked s h.records held.right)
 
 -- ---- edits that are right
 
-pub right_well : (e : Edits) (h : Held) → AreRight e h → IsWellFormed (edits_made e)
-right_well (edits.One source pairs edit change) h right = well_made source.now pairs.now edit.now change.now h right
-right_well (edits.Batch source made entries) h right = right.1.well
-
-pub prepared_by : (e : Edits) (h : Held) → AreRight e h → IsPreparedByEdits (made_by e) h.private_len
-prepared_by (edits.One source pairs edit change) h right = record {
-  fits = record { pairs = pairs.now; serves = right.serves; well = right.well };
-  file = file_checked source.now (right_checked source.now h.records right.held.right);
-  known = right.held.len;
+pub edit_right : (s : SourceParts) (k : List Pair) (edit : Edit) (change : Change) (h : Held) → IsPreparedEdit s k edit change h → (e : Edits) → e.source.now ≡ s
+    → e.made ≡ record { source = s; change = Some change } → AreChanges s (changed change s k).0 (named edit) h e.changes.items
+    → AreRight (named edit) (changed change s k).0 h e
+edit_right s k edit change h prepared e source made changes = record {
+  held = subst (λ t. IsHeld t h) (sym source) prepared.held;
+  well = well_made s k edit change h prepared;
+  made = ap made_of made ∙ source_alone change s k;
+  source = subst (λ (m : EditedParts). IfSome m.change (λ change. (m.source ≡ e.source.now) × IsFor change e.source.now)) (sym made)
+      (sym source, subst (IsFor change) (sym source) (record { pairs = k; serves = prepared.serves; well = prepared.well }));
+  changes = subst (λ t. AreChanges t (changed change s k).0 (named edit) h e.changes.items) (sym source) changes;
 }
-prepared_by (edits.Batch source made entries) h right = tt
+
+pub batch_right : (s made : SourceParts) (entries : List EntryEdit) (h : Held) → IsHeld s h → IsEditedBy entries s made → (e : Edits) → e.source.now ≡ s
+    → e.made ≡ record { source = made; change = None } → AreChanges s made (keys entries) h e.changes.items → AreRight (keys entries) made h e
+batch_right s made entries h held edited e source is changes = record {
+  held = subst (λ t. IsHeld t h) (sym source) held;
+  well = edited.well;
+  made = ap made_of is;
+  source = subst (λ (m : EditedParts). IfSome m.change (λ change. (m.source ≡ e.source.now) × IsFor change e.source.now)) (sym is) tt;
+  changes = subst (λ t. AreChanges t made (keys entries) h e.changes.items) (sym source) changes;
+}
+
+-- of the source that is edited so much is known
+for_held : (o : Option Change) (t s : SourceParts) (len : ℕ) → file_check s ≡ Ok tt → IsPrivateLen s len → IfSome o (λ change. (t ≡ s) × IsFor change s)
+    → IfSome o (λ change. (t ≡ s) × IsPreparedFor change s len)
+for_held None t s len file known right = tt
+for_held (Some change) t s len file known right = (right.0, record { fits = right.1; file = file; known = known })
+
+pub made_of_held : (ks : List Key) (made : SourceParts) (h : Held) (e : Edits) → AreRight ks made h e → IsMadeOf e.source.now h.private_len e.made
+made_of_held ks new h e right =
+    for_held e.made.change e.made.source e.source.now h.private_len (file_checked e.source.now (right_checked e.source.now h.records right.held.right)) right.held.len right.source

@@ -21,9 +21,9 @@ use Rattle.t1_run.specs.Run.{Key, Subr, Glyph}
 use Rattle.t1_run.specs.RunKeys.{body_at, key_eq}
 use Rattle.t1_font.specs.Bodies.{bodies, subr_among, glyph_among}
 use Rattle.t1_font.specs.Glyphs.{glyph_names}
-use Rattle.t1_cache.specs.declared.records.Named.{Named}
-use Rattle.t1_cache.specs.declared.records.Named.TheVariants as named
-use Rattle.t1_cache.specs.EditKeys.{key_of}
+use Rattle.t1_font.specs.declared.owned_key.OwnedKey.{OwnedKey}
+use Rattle.t1_font.specs.declared.owned_key.OwnedKey.TheVariants as named
+use Rattle.t1_font.specs.OwnedKeys.{key_of}
 use Rattle.t1_font.proofs.Keys.{key-itself, key-same}
 use Rattle.t1_cache.proofs.Lists.{all-weaken}
 use Rattle.t1_rerun.specs.declared.entry_change.EntryChange.{EntryChange}
@@ -127,7 +127,7 @@ after-at (items.Glyph g words c ∷ is) m k = after-at is (without_key (Glyph g)
 -- ---- a pass without a fault
 
 -- an entry that is looked for is the first of the changes
-pub record First (P : Sought → List EntryChange → Type 0) (m : Sought) (d : Named) (words : List (List ℕ)) (cs : List EntryChange) : Type 0 where
+pub record First (P : Sought → List EntryChange → Type 0) (m : Sought) (d : OwnedKey) (words : List (List ℕ)) (cs : List EntryChange) : Type 0 where
   pub moved : Bool
   pub body : List Command
   pub rest : List EntryChange
@@ -136,7 +136,7 @@ pub record First (P : Sought → List EntryChange → Type 0) (m : Sought) (d : 
   pub whole : cs ≡ entry_change d (Some body) moved ∷ rest
   pub others : P (without_key (key_of d) m) rest
 
-abbrev pub Met : (Sought → List EntryChange → Type 0) → Sought → Named → List (List ℕ) → List EntryChange → Type 0
+abbrev pub Met : (Sought → List EntryChange → Type 0) → Sought → OwnedKey → List (List ℕ) → List EntryChange → Type 0
 Met P m d words cs = ((m (key_of d) ≡ None) × P (without_key (key_of d) m) cs) ⊎ First P m d words cs
 
 abbrev pub Passes : List Item → Sought → List EntryChange → Type 0
@@ -151,7 +151,7 @@ front-ok : (front : List EntryChange) (r : Outcome) (cs : List EntryChange) → 
 front-ok front (Ok rest) cs e = let same : front ++ rest ≡ cs = cc in (rest, refl, sym same)
 front-ok front (Err fault) cs e = absurd (cc)
 
-met : (is : List Item) (m : Sought) (d : Named) (place : Place) (words : List (List ℕ)) (cs : List EntryChange)
+met : (is : List Item) (m : Sought) (d : OwnedKey) (place : Place) (words : List (List ℕ)) (cs : List EntryChange)
     → (put_of (m (key_of d)) d place words >>= λ change. in_front (option_to_list change) (items_put (without_key (key_of d) m) is)) ≡ Ok cs
     → ((n : Sought) (rest : List EntryChange) → items_put n is ≡ Ok rest → Passes is n rest)
     → Met (Passes is) m d words cs
@@ -183,7 +183,7 @@ passes (items.Glyph g words c ∷ is) m cs e = met is m (named.Glyph g) (places.
 abbrev pub tally : (Bool → Bool) → Key → List EntryChange → Bool
 tally f k cs = list_any (λ c. f c.moved && key_eq k (key_of c.named)) cs
 
-tally-met : (f : Bool → Bool) (k : Key) (d : Named) (words : List (List ℕ)) (has : Bool) (P : Sought → List EntryChange → Type 0) (m : Sought) (cs : List EntryChange)
+tally-met : (f : Bool → Bool) (k : Key) (d : OwnedKey) (words : List (List ℕ)) (has : Bool) (P : Sought → List EntryChange → Type 0) (m : Sought) (cs : List EntryChange)
     → ((n : Sought) (rest : List EntryChange) → P n rest → tally f k rest ≡ (has && mark_is f (n k))) → Met P m d words cs
     → tally f k cs ≡ ((key_eq k (key_of d) || has) && mark_is f (m k))
 tally-met f k d words has P m cs rest (inl h) =
@@ -227,7 +227,7 @@ changed-append (c ∷ cs) ds = ap (λ l. key_of c.named ∷ l) (changed-append c
 abbrev Apart : List Item → Sought → List EntryChange → Type 0
 Apart is m back = (k : Key) → after_items is m k ≡ None → list_any (key_eq k) (changed_keys back) ≡ false
 
-distinct-met : (is : List Item) (m : Sought) (d : Named) (words : List (List ℕ)) (cs back : List EntryChange)
+distinct-met : (is : List Item) (m : Sought) (d : OwnedKey) (words : List (List ℕ)) (cs back : List EntryChange)
     → ((n : Sought) (rest : List EntryChange) → Passes is n rest → Apart is n back → AreDistinctKeys (changed_keys (rest ++ back)))
     → Met (Passes is) m d words cs → Apart is (without_key (key_of d) m) back → AreDistinctKeys (changed_keys (cs ++ back))
 distinct-met is m d words cs back rest (inl h) apart = rest (without_key (key_of d) m) cs h.1 apart
@@ -293,7 +293,7 @@ head-glyph g words c is body e =
     ap (λ b. option_or (cond b (result_ok (commands words)) None) (glyph_among is g)) (key-itself (Glyph g))
     ∙ ap (λ r. option_or (result_ok r) (glyph_among is g)) e
 
-module _ (i : Item) (d : Named) (words : List (List ℕ)) (is : List Item)
+module _ (i : Item) (d : OwnedKey) (words : List (List ℕ)) (is : List Item)
     (skip : (k : Key) → key_eq k (key_of d) ≡ false → body_at (bodies (i ∷ is)) k ≡ body_at (bodies is) k)
     (head : (body : List Command) → commands words ≡ Ok body → body_at (bodies (i ∷ is)) (key_of d) ≡ Some body) (m : Sought) where
   lifted : (c : EntryChange) → IsPut is (without_key (key_of d) m) c → IsPut (i ∷ is) m c

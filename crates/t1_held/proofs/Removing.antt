@@ -25,10 +25,10 @@ use Rattle.t1_run.specs.Run.{Key, Subr, Glyph}
 use Rattle.t1_run.specs.RunKeys.{key_eq}
 use Rattle.t1_font.specs.Bodies.{bodies_check, words_check}
 use Rattle.t1_font.specs.Glyphs.{glyph_names}
-use Rattle.t1_cache.specs.declared.records.Named.{Named}
-use Rattle.t1_cache.specs.declared.records.Named.TheVariants as named
+use Rattle.t1_font.specs.declared.owned_key.OwnedKey.{OwnedKey}
+use Rattle.t1_font.specs.declared.owned_key.OwnedKey.TheVariants as named
 use Rattle.t1_cache.specs.Laws.{AreDistinct}
-use Rattle.t1_cache.specs.EditKeys.{key_of}
+use Rattle.t1_font.specs.OwnedKeys.{key_of}
 use Rattle.t1_font.proofs.Keys.{key-same, included}
 use Rattle.t1_cache.proofs.Lists.{all-weaken}
 use Rattle.t1_font.proofs.Lookups.{bytes_tell}
@@ -158,7 +158,7 @@ same-glyph g (items.Glyph h words c) = refl
 abbrev is-fine : Result (List Command) Fault → Checked
 is-fine r = r >>= λ body. Ok tt
 
-check-entry : (d : Named) (place : Place) (words : List (List ℕ)) (ks : List Key) (is : List Item) (m : Sought)
+check-entry : (d : OwnedKey) (place : Place) (words : List (List ℕ)) (ks : List Key) (is : List Item) (m : Sought)
     → (Includes ks (key_of d) ⊎ (words_check place words ≡ Ok tt)) → is_some (m (key_of d)) ≡ list_any (key_eq (key_of d)) ks
     → bodies_check is ≡ unit (items_put (without_key (key_of d) m) is)
     → (words_check place words >>= λ checked. bodies_check is)

@@ -5,7 +5,8 @@ use Rattle.t1_source.specs.declared.edit.Edit.{Edit}
 use Rattle.t1_source.specs.declared.edit.Edit.TheVariants.{AddGlyph, AddSubr}
 use Rattle.t1_pairs.specs.declared.pairs.Pair.{Pair}
 use Rattle.t1_run.specs.Run.{Key}
-use Rattle.t1_cache.specs.EditKeys.{named, key_of}
+use Rattle.t1_cache.specs.EditKeys.{named}
+use Rattle.t1_font.specs.OwnedKeys.{key_of}
 use Rattle.t1_held.specs.declared.batch.entries.EditedEntry.{EditedEntry}
 
 -- profile, batches: an entry that an edit names, and whether the edit added it

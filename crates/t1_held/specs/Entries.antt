@@ -4,7 +4,7 @@ use Rattle.std.specs.Option.{option_map, option_or}
 use Rattle.t1_run.specs.Run.{Key}
 use Rattle.t1_run.specs.RunKeys.{key_eq}
 use Rattle.t1_charstrings.specs.Entries.{KeptCharstring, encrypted}
-use Rattle.t1_cache.specs.EditKeys.{key_of}
+use Rattle.t1_font.specs.OwnedKeys.{key_of}
 use Rattle.t1_rerun.specs.declared.entry_change.EntryChange.{EntryChange}
 use Rattle.t1_rerun.specs.Settled.{changed_keys}
 

@@ -14,9 +14,9 @@ use Rattle.t1_parts.specs.declared.item.Item.{Item}
 use Rattle.t1_parts.specs.declared.item.Item.TheVariants as items
 use Rattle.t1_run.specs.Run.{Key, Subr, Glyph}
 use Rattle.t1_run.specs.RunKeys.{key_eq}
-use Rattle.t1_cache.specs.declared.records.Named.{Named}
-use Rattle.t1_cache.specs.declared.records.Named.TheVariants as named
-use Rattle.t1_cache.specs.EditKeys.{key_of}
+use Rattle.t1_font.specs.declared.owned_key.OwnedKey.{OwnedKey}
+use Rattle.t1_font.specs.declared.owned_key.OwnedKey.TheVariants as named
+use Rattle.t1_font.specs.OwnedKeys.{key_of}
 use Rattle.t1_rerun.specs.declared.entry_change.EntryChange.{EntryChange}
 use Rattle.t1_rerun.specs.Steps.{entry_change}
 use Rattle.t1_held.specs.declared.batch.entries.EditedEntry.{EditedEntry}
@@ -65,7 +65,7 @@ without_key key m k = if key_eq key k then None else m k
 -- ---- the pass
 
 -- word: an entry that is looked for, with the commands of its words, or their fault at its place
-abbrev pub put_of : Option Bool → Named → Place → List (List ℕ) → Result (Option EntryChange) Fault
+abbrev pub put_of : Option Bool → OwnedKey → Place → List (List ℕ) → Result (Option EntryChange) Fault
 put_of None named place words = Ok None
 put_of (Some moved) named place words = reported_at place (commands words) >>= λ body. Ok (Some (entry_change named (Some body) moved))
 
@@ -96,7 +96,7 @@ items_put m (i ∷ is) = item_put m i >>= λ change. items_put (after_item i m) 
 -- ---- the entries that were not met were removed
 
 -- word: an entry that is still looked for has no body any more
-abbrev pub removed_at : Option Bool → Named → Option EntryChange
+abbrev pub removed_at : Option Bool → OwnedKey → Option EntryChange
 removed_at None named = None
 removed_at (Some added) named = Some (entry_change named None false)
 

@@ -3,16 +3,13 @@ ghost use Rattle.std.specs.Prelude.{◌≡◌, IfOk, OnOk, map};
 ghost use Rattle.std.specs.Option.{option_or};
 ghost use Rattle.t1_parts.specs.LenIV.{lead};
 ghost use Rattle.t1_run.specs.Run.{Key};
-ghost use Rattle.t1_charstrings.specs.Batch.{gone_key};
 ghost use Rattle.t1_charstrings.specs.Kept.{charstring_at};
-ghost use Rattle.t1_cache.specs.EditKeys.{key_of};
+ghost use Rattle.t1_font.specs.OwnedKeys.{key_of};
 ghost use Rattle.t1_held.specs.Entries.{fresh_in, fresh_one, gone_keys};
 
 use std::alloc::{AllocError, Global};
-use t1_cache::Named;
-use t1_charstrings::{
-    Charstrings, EditedEntries, Gone, no_charstrings, put_fresh_glyph, put_fresh_subr,
-};
+use t1_charstrings::{Charstrings, EditedEntries, no_charstrings, put_fresh_glyph, put_fresh_subr};
+use t1_font::OwnedKey;
 use t1_rerun::EntryChange;
 use t1_source::Source;
 
@@ -32,8 +29,8 @@ fn put_fresh(
         return Ok(());
     };
     match &change.named {
-        Named::Subr(number) => put_fresh_subr(alloc, lead, fresh, *number, body),
-        Named::Glyph(name) => put_fresh_glyph(alloc, lead, fresh, name.as_slice(), body),
+        OwnedKey::Subr(number) => put_fresh_subr(alloc, lead, fresh, *number, body),
+        OwnedKey::Glyph(name) => put_fresh_glyph(alloc, lead, fresh, name.as_slice(), body),
     }
 }
 
@@ -53,24 +50,14 @@ fn fresh_charstrings(
     Ok(fresh)
 }
 
-/// An entry that is gone.
-fn gone_entry(alloc: Global, named: &Named) -> Result<Gone, AllocError>
-    ensures { IfOk result (λ gone. gone_key gone ≡ key_of named.now) }
-{
-    match named {
-        Named::Subr(number) => Ok(Gone::Subr(*number)),
-        Named::Glyph(name) => Ok(Gone::Glyph(Vec::from_slice(alloc, name.as_slice())?)),
-    }
-}
-
 /// The changed entries that have no body any more.
-fn gone_entries(alloc: Global, changes: &[EntryChange]) -> Result<Vec<Gone>, AllocError>
-    ensures { IfOk result (λ gone. map gone_key gone.items ≡ gone_keys changes.now) }
+fn gone_entries(alloc: Global, changes: &[EntryChange]) -> Result<Vec<OwnedKey>, AllocError>
+    ensures { IfOk result (λ gone. map key_of gone.items ≡ gone_keys changes.now) }
 {
     let mut gone = Vec::new(alloc);
     for change in changes {
         if change.body.is_none() {
-            gone.push(gone_entry(alloc, &change.named)?)?;
+            gone.push(change.named.copied(alloc)?)?;
         }
     }
     Ok(gone)
@@ -86,7 +73,7 @@ fn edited_entries(
     ensures fresh { IfOk result
         (λ entries. (k : Key) → charstring_at entries.fresh k ≡ fresh_in lead changes.now k) }
     ensures gone { IfOk result
-        (λ entries. map gone_key entries.gone.items ≡ gone_keys changes.now) }
+        (λ entries. map key_of entries.gone.items ≡ gone_keys changes.now) }
 {
     Ok(EditedEntries {
         fresh: fresh_charstrings(alloc, lead, changes)?,
@@ -105,7 +92,7 @@ pub(crate) fn entries_of(
         (λ entries.
         (k : Key) → charstring_at entries.fresh k ≡ fresh_in (lead source.now) changes.now k) }
     ensures gone { IfOk result
-        (λ entries. map gone_key entries.gone.items ≡ gone_keys changes.now) }
+        (λ entries. map key_of entries.gone.items ≡ gone_keys changes.now) }
 {
     if changes.is_empty() {
         return Ok(EditedEntries {

@@ -10,7 +10,7 @@ ghost use Rattle.t1_font.specs.RunCounts.{counted};
 ghost use Rattle.t1_outline.specs.Counting.{outline_runs, runs_within};
 
 use std::alloc::Global;
-use t1_frac::{Bytes, Code, Place, Refusal};
+use t1_frac::{Code, Refusal};
 use t1_run::{Meter, Segment, StoredBodies, join, run_of_body};
 
 /// The outline of a glyph in which composites nest so deep, or its first fault, at no place. The
@@ -50,7 +50,7 @@ fn nested_outline<B: StoredBodies>(
 }
 
 /// The outline of a glyph, or its first fault, at the glyph. The meter counts as before.
-#[tactic(auto, unfolding(t1_run::specs::Composite::outline, crate::specs::Counting::outline_runs))]
+#[tactic(auto, unfolding(t1_run::specs::Composite::outline, crate::specs::Counting::outline_runs), using(t1_frac::proofs::OutcomeLaws::refuses_at))]
 pub(crate) fn placed_outline<B: StoredBodies>(
     alloc: Global,
     bodies: &B,
@@ -72,7 +72,7 @@ pub(crate) fn placed_outline<B: StoredBodies>(
         meter.new) }
 {
     match nested_outline(alloc, bodies, 4, name, meter) {
-        Err(refusal) => Err(refusal.at(Place::Glyph(Bytes::copied(alloc, name)?))),
+        Err(refusal) => Err(refusal.at_glyph(alloc, name)),
         outline => outline,
     }
 }

@@ -12,6 +12,8 @@ pub mod ItemLaws
 pub mod KeyLaws
 pub mod LeadKeptLaws
 pub mod LeadLaws
+pub mod LineKindLaws
+pub mod MadeSourceLaws
 pub mod NeedLaws
 pub mod NumberedLaws
 pub mod OpeningLaws

@@ -1,15 +1,12 @@
 -- Items where they stand.
-use Rattle.std.specs.Prelude.{◌≡◌, ℕ, List}
 use Rattle.t1_parts.specs.declared.item.Item.{Item}
-use Rattle.t1_parts.specs.declared.item.Item.TheVariants.{Plain}
+use Rattle.t1_parts.specs.declared.item.Item.TheVariants as items
 use Rattle.t1_parts.specs.declared.item_ref.ItemRef.{ItemRef}
-use Rattle.t1_parts.specs.declared.item_ref.ItemRef.TheVariants.{Line, Item as Whole}
+use Rattle.t1_parts.specs.declared.item_ref.ItemRef.TheVariants.{Plain, Section, Subr, Glyph}
 
--- word: the item that stands there
+-- word: the item whose parts these are
 abbrev pub item_of : ItemRef → Item
-item_of (Line l) = Plain l.now
-item_of (Whole item) = item.now
-
--- word: the item is a plain line
-abbrev pub IsPlain : Item → Type 0
-IsPlain item = (l : List ℕ) × (item ≡ Plain l)
+item_of (Plain l) = items.Plain l.now
+item_of (Section before n after) = items.Section before.now n after.now
+item_of (Subr n words closing) = items.Subr n words.now closing.now
+item_of (Glyph g words closing) = items.Glyph g.now words.now closing.now

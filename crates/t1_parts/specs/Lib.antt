@@ -9,6 +9,7 @@ pub mod ItemRefs
 pub mod Items
 pub mod LenIV
 pub mod LineCuts
+pub mod LineKinds
 pub mod Needs
 pub mod NumberedStretches
 pub mod Operator

@@ -6,7 +6,6 @@ ghost use Rattle.t1_parts.specs.Counts.{subrs_needed, glyphs_needed, raised, rai
 use crate::item::Item;
 use crate::items::Items;
 use crate::items_iter::ItemsIter;
-use crate::sections::is_glyphs_line;
 
 /// What the Subrs of these items ask of the section's count: the highest number plus one, 0 where
 /// there is none.
@@ -43,7 +42,11 @@ pub fn glyphs_needed(items: ItemsIter) -> u64
 pub(crate) fn raise_item(item: &mut Item, subrs: u64, glyphs: u64)
     ensures { item.new ≡ raised_item subrs glyphs item.old }
 {
-    let needed = if is_glyphs_line(item) { glyphs } else { subrs };
+    let needed = if item.as_ref().is_glyphs_line() {
+        glyphs
+    } else {
+        subrs
+    };
     if let Item::Section(_, count, _) = item {
         *count = (*count).max(needed);
     }

@@ -2,7 +2,7 @@
 
 ghost use Rattle.std.specs.Prelude.{◌≤◌, length};
 
-use crate::item::Item;
+use crate::starts::copied_starts;
 use crate::stretch::Stretch;
 use std::alloc::{AllocError, Global};
 
@@ -14,15 +14,10 @@ pub(crate) struct EntryCounts {
     count: usize,
 }
 
-/// Whether an item is a Subr or a glyph.
-pub(crate) fn is_entry(item: &Item) -> bool {
-    matches!(item, Item::Subr(_, _, _) | Item::Glyph(_, _, _))
-}
-
 /// Whether a stretch is a Subr or a glyph.
 pub(crate) fn is_entry_alone(stretch: &Stretch) -> bool {
     match stretch {
-        Stretch::One(item) => is_entry(item),
+        Stretch::One(item) => item.as_ref().is_entry(),
         Stretch::Lines(_) => false,
     }
 }
@@ -69,10 +64,8 @@ impl EntryCounts {
 
     /// The same in memory of their own.
     pub(crate) fn copied(&self, alloc: Global) -> Result<EntryCounts, AllocError> {
-        let mut before = Vec::new(alloc);
-        before.extend_from_slice(self.before.as_slice())?;
         Ok(EntryCounts {
-            before,
+            before: copied_starts(alloc, self.before.as_slice())?,
             count: self.count,
         })
     }

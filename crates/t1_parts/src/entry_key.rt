@@ -6,7 +6,6 @@ ghost use Rattle.t1_parts.specs.Entries.{is_subr, is_glyph};
 ghost use Rattle.t1_parts.specs.EntryKeys.{is_any_subr, is_entry_of, is_of_kind, is_section};
 
 use crate::item::Item;
-use crate::sections::{is_glyphs_line, is_subrs_line};
 use t1_text::same;
 
 /// What an entry is found by: a Subr by its number, a glyph by its name.
@@ -97,8 +96,8 @@ impl ItemKind {
         ensures { result ≡ is_of_kind self.now item.now }
     {
         match self {
-            ItemKind::Subrs => is_any_subr(item) || is_subrs_line(item),
-            ItemKind::Glyphs => is_any_glyph(item) || is_glyphs_line(item),
+            ItemKind::Subrs => is_any_subr(item) || item.as_ref().is_subrs_line(),
+            ItemKind::Glyphs => is_any_glyph(item) || item.as_ref().is_glyphs_line(),
             ItemKind::Sections => is_section(item),
         }
     }

@@ -16,7 +16,6 @@ ghost use Rattle.t1_parts.specs.Reading.{unnumbered};
 use crate::item::Item;
 use crate::items::Items;
 use crate::plain_lines::{PlainLines, next_line};
-use crate::sections::{is_glyphs_line, is_subrs_line};
 use crate::stretch::Stretch;
 use indexmap::IndexSet;
 use std::alloc::{AllocError, Global};
@@ -295,8 +294,8 @@ impl<'a> Gathered<'a> {
             mut subrs,
             mut glyphs,
         } = self;
-        let has_subrs_line = has_subrs_line | is_subrs_line(&item);
-        let has_glyphs_line = has_glyphs_line | is_glyphs_line(&item);
+        let has_subrs_line = has_subrs_line | item.as_ref().is_subrs_line();
+        let has_glyphs_line = has_glyphs_line | item.as_ref().is_glyphs_line();
         push_item(
             &mut numbers,
             &mut stretches,

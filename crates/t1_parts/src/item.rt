@@ -4,7 +4,7 @@ ghost use Rattle.std.specs.Prelude.{◌≡◌, IfOk};
 ghost use Rattle.t1_parts.specs.declared.item.Item.TheVariants as kinds;
 
 use std::alloc::{AllocError, Global};
-use t1_frac::{OwnedWords, SourceText, Words};
+use t1_frac::{SourceText, Words};
 
 /// One item of the private part; its texts stand in the source that was read, or in memory of their
 /// own.
@@ -83,75 +83,6 @@ fn copied_glyph<'a>(
     Ok(Item::Glyph(name, words, closing))
 }
 
-/// A copy of a text, in memory of its own.
-fn owned_text(alloc: Global, text: &SourceText) -> Result<SourceText<'static>, AllocError>
-    ensures { IfOk result (λ owned. owned ≡ text.now) }
-{
-    SourceText::copy_of(alloc, text.as_slice())
-}
-
-/// A copy of some words, in memory of their own.
-fn owned_words(alloc: Global, words: &Words) -> Result<Words<'static>, AllocError>
-    ensures { IfOk result (λ owned. owned ≡ words.now) }
-{
-    let mut owned = OwnedWords::new(alloc);
-    owned.push_line(words.as_bytes())?;
-    Ok(owned.into_words())
-}
-
-/// Copies of an entry's words and of the text after its closing brace, in memory of their own.
-fn owned_body(
-    alloc: Global,
-    words: &Words,
-    closing: &SourceText,
-) -> Result<(Words<'static>, SourceText<'static>), AllocError>
-    ensures words { IfOk result (λ body. body.0 ≡ words.now) }
-    ensures closing { IfOk result (λ body. body.1 ≡ closing.now) }
-{
-    let words = owned_words(alloc, words)?;
-    Ok((words, owned_text(alloc, closing)?))
-}
-
-/// A copy of a section line that borrows nothing.
-fn owned_section(
-    alloc: Global,
-    before: &SourceText,
-    count: u64,
-    after: &SourceText,
-) -> Result<Item<'static>, AllocError>
-    ensures { IfOk result (λ owned. owned ≡ kinds.Section before.now count after.now) }
-{
-    let before = owned_text(alloc, before)?;
-    Ok(Item::Section(before, count, owned_text(alloc, after)?))
-}
-
-/// A copy of a Subr that borrows nothing.
-fn owned_subr(
-    alloc: Global,
-    number: u16,
-    words: &Words,
-    closing: &SourceText,
-) -> Result<Item<'static>, AllocError>
-    ensures { IfOk result (λ owned. owned ≡ kinds.Subr number words.now closing.now) }
-{
-    let (words, closing) = owned_body(alloc, words, closing)?;
-    Ok(Item::Subr(number, words, closing))
-}
-
-/// A copy of a glyph that borrows nothing.
-fn owned_glyph(
-    alloc: Global,
-    name: &SourceText,
-    words: &Words,
-    closing: &SourceText,
-) -> Result<Item<'static>, AllocError>
-    ensures { IfOk result (λ owned. owned ≡ kinds.Glyph name.now words.now closing.now) }
-{
-    let name = owned_text(alloc, name)?;
-    let (words, closing) = owned_body(alloc, words, closing)?;
-    Ok(Item::Glyph(name, words, closing))
-}
-
 impl<'a> Item<'a> {
     /// A copy. It takes no memory where the texts stand in a source.
     pub fn copied(&self, alloc: Global) -> Result<Item<'a>, AllocError>
@@ -162,18 +93,6 @@ impl<'a> Item<'a> {
             Item::Section(before, count, after) => copied_section(alloc, before, *count, after),
             Item::Subr(number, words, closing) => copied_subr(alloc, *number, words, closing),
             Item::Glyph(name, words, closing) => copied_glyph(alloc, name, words, closing),
-        }
-    }
-
-    /// A copy that borrows nothing.
-    pub fn owned(&self, alloc: Global) -> Result<Item<'static>, AllocError>
-        ensures { IfOk result (λ owned. owned ≡ self.now) }
-    {
-        match self {
-            Item::Plain(line) => Ok(Item::Plain(owned_text(alloc, line)?)),
-            Item::Section(before, count, after) => owned_section(alloc, before, *count, after),
-            Item::Subr(number, words, closing) => owned_subr(alloc, *number, words, closing),
-            Item::Glyph(name, words, closing) => owned_glyph(alloc, name, words, closing),
         }
     }
 }

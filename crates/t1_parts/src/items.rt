@@ -20,9 +20,9 @@ use crate::entry_places::{entry_before, place_of_entry, through_last};
 use crate::item::Item;
 use crate::item_ref::ItemRef;
 use crate::items_iter::{ItemsIter, item_before, items_among, items_between};
-use crate::len_iv::{lead_of, says_lead};
+use crate::len_iv::lead_of;
 use crate::needs::{
-    Needs, ask_the_same, needs_after, needs_among, needs_of, needs_there, needs_without, together,
+    Needs, ask_the_same, needs_after, needs_among, needs_of, needs_without, together,
 };
 use crate::section_ends::{end_inserted, end_pushed, end_put, end_removed};
 use crate::starts::starts_of;
@@ -71,7 +71,7 @@ impl<'a> Model for Items<'a> {
 fn says_either(old: &ItemRef, new: &Item) -> bool
     ensures { result ≡ (says_lead (item_of old.now) || says_lead new.now) }
 {
-    old.says_lead() || says_lead(new)
+    old.says_lead() || new.as_ref().says_lead()
 }
 
 /// The lenIV of some stretches, which have so many items.
@@ -309,8 +309,8 @@ impl<'a> Items<'a> {
             drop(item);
             return Err(AllocError);
         };
-        let is_said = says_lead(&item);
-        let more = needs_of(&item);
+        let is_said = item.as_ref().says_lead();
+        let more = needs_of(&item.as_ref());
         let sections_end = end_pushed(self.sections_end, len, &item);
         self.stretches.push(item, self.len)?;
         self.len = len;
@@ -330,8 +330,8 @@ impl<'a> Items<'a> {
             drop(item);
             return Err(AllocError);
         };
-        let is_said = says_lead(&item);
-        let more = needs_of(&item);
+        let is_said = item.as_ref().says_lead();
+        let more = needs_of(&item.as_ref());
         let sections_end = end_inserted(self.sections_end, at, &item);
         let index = match self.stretches.cut_before(at) {
             Ok(index) => index,
@@ -358,7 +358,7 @@ impl<'a> Items<'a> {
     {
         let item = self.item(at);
         let is_said = item.says_lead();
-        let gone = needs_there(&item);
+        let gone = needs_of(&item);
         let index = self.stretches.cut_before(at)?;
         self.stretches.drop_first(index);
         let len = self.len - 1;

@@ -63,14 +63,14 @@ impl<'i, 'a> Iterator for ItemsIter<'i, 'a> {
         if let Some(item) = self.first {
             self.first = None;
             self.len -= 1;
-            return Some(ItemRef::Item(item));
+            return Some(item.as_ref());
         }
         let front = self.front;
         if !front.is_empty() {
             let (line, after) = next_line(front);
             self.front = after;
             self.len -= 1;
-            return Some(ItemRef::Line(line));
+            return Some(ItemRef::Plain(line));
         }
         let Some(stretch) = self.stretches.next() else {
             let back = self.back;
@@ -80,18 +80,18 @@ impl<'i, 'a> Iterator for ItemsIter<'i, 'a> {
             let (line, after) = next_line(back);
             self.back = after;
             self.len -= 1;
-            return Some(ItemRef::Line(line));
+            return Some(ItemRef::Plain(line));
         };
         match stretch {
             Stretch::One(item) => {
                 self.len -= 1;
-                Some(ItemRef::Item(item))
+                Some(item.as_ref())
             }
             Stretch::Lines(plain) => {
                 let (line, after) = next_line(plain.as_bytes());
                 self.front = after;
                 self.len -= 1;
-                Some(ItemRef::Line(line))
+                Some(ItemRef::Plain(line))
             }
         }
     }

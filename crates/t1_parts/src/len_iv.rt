@@ -14,22 +14,12 @@ use crate::items_iter::ItemsIter;
 use t1_frac::{Code, Fault};
 use t1_text::{after_token, decimal_up_to, fault_on};
 
-/// The bytes of a plain line.
-pub fn plain_line<'i>(item: &'i Item) -> Option<&'i [u8]>
-    ensures { option_map (λ line. line.now) result ≡ plain_line item.now }
-{
-    match item {
-        Item::Plain(line) => Some(line.as_slice()),
-        _ => None,
-    }
-}
-
 /// What an item says of lenIV: the token after `/lenIV` on a plain line, or that there is none.
-fn said_lead<'i>(item: &'i Item) -> Option<Option<&'i [u8]>>
+fn said_lead<'i>(item: &ItemRef<'i, '_>) -> Option<Option<&'i [u8]>>
     ensures { option_map (λ said. option_map (λ token. token.now) said) result
-        ≡ said_lead item.now }
+        ≡ said_lead (item_of item.now) }
 {
-    match plain_line(item) {
+    match item.plain_line() {
         Some(line) => after_token(b"/lenIV", line),
         None => None,
     }
@@ -43,23 +33,12 @@ pub(crate) fn line_says(line: &[u8]) -> bool
     after_token(b"/lenIV", line).is_some()
 }
 
-/// Whether an item is a plain line with a token `/lenIV`.
-pub fn says_lead(item: &Item) -> bool
-    ensures { result ≡ says_lead item.now }
-{
-    said_lead(item).is_some()
-}
-
 impl<'i, 'a> ItemRef<'i, 'a> {
-    /// Whether the item is a plain line with a token `/lenIV`.
-    #[tactic(auto, unfolding(crate::specs::Stretches::line_says))]
+    /// Whether it is a plain line with a token `/lenIV`.
     pub fn says_lead(&self) -> bool
         ensures { result ≡ says_lead (item_of self.now) }
     {
-        match self {
-            ItemRef::Line(line) => line_says(line),
-            ItemRef::Item(item) => says_lead(item),
-        }
+        said_lead(self).is_some()
     }
 }
 
@@ -67,7 +46,7 @@ impl<'i, 'a> ItemRef<'i, 'a> {
 fn lead_on(item: &Item) -> Option<u8>
     ensures { result ≡ option_and_then lead_of_token (said_lead item.now) }
 {
-    let Some(Some(token)) = said_lead(item) else {
+    let Some(Some(token)) = said_lead(&item.as_ref()) else {
         return None;
     };
     let Some(lead) = decimal_up_to(64, token) else {
@@ -95,7 +74,7 @@ fn first_saying<'i, 'a>(items: ItemsIter<'i, 'a>) -> Option<&'i Item<'a>>
     ensures { option_map (λ item. item.now) result ≡ find says_lead items.entry }
 {
     let mut alone = items.alone();
-    alone.find(|item| says_lead(item))
+    alone.find(|item| item.as_ref().says_lead())
 }
 
 /// The lenIV of some items.

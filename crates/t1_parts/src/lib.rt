@@ -5,9 +5,8 @@
 //! All of it is for the crates above. Users meet [`Item`], which `t1_source` passes on, and
 //! [`Items`], which a source gives.
 //!
-//! What is proved: the parts and the bodies that are cut from the bytes are those of the lines
-//! (`IsCut`, `IsPiece`), or the fault is the first, with its line. What a whole source is read as
-//! `t1_source` says.
+//! What is proved: what bytes are read as, or their first fault with its line ([`read_parts`]); the
+//! parts and the bodies that are cut from the bytes are those of the lines (`IsCut`, `IsPiece`).
 #![tactic(auto)]
 
 mod alone_items;
@@ -25,6 +24,7 @@ mod item_ref;
 mod items;
 mod items_iter;
 mod len_iv;
+mod line_kind;
 mod needs;
 mod operator;
 mod parts;
@@ -32,6 +32,7 @@ mod piece;
 mod plain_lines;
 mod printing;
 mod private;
+mod reading;
 mod section_ends;
 mod sections;
 mod starts;
@@ -41,19 +42,18 @@ mod stretches;
 pub use alone_items::AloneItems;
 pub use body::{EntryBody, body_of, has_brace, opened_body, uncommented};
 pub use counts::{glyphs_needed, raise, subrs_needed};
-pub use encoding::{array_len, array_of, check_clear, encoding_at, has_standard, slot_of};
+pub use encoding::{array_len, array_of, encoding_at, has_standard, slot_of};
 pub use entries::{glyph_entry, opens_glyph, opens_subr, subr_entry};
 pub use entry_key::{EntryKey, ItemKind};
-pub use gathered::Gathered;
 pub use header::header_of;
 pub use item::{Item, Taken};
 pub use item_ref::ItemRef;
 pub use items::Items;
 pub use items_iter::ItemsIter;
-pub use len_iv::{check_lead, lead_of, plain_line, says_lead};
+pub use len_iv::lead_of;
 pub use operator::{operator_of, operator_on, text_place};
 pub use parts::{PartBytes, ends_in, holds, parts_of, tail_of};
 pub use piece::{BodyFront, piece_of};
 pub use printing::{push_decimal, push_items, push_line, push_lines, push_words};
-pub use private::private_items;
-pub use sections::{count_between, is_glyphs_line, is_subrs_line, section_at};
+pub use reading::{ReadParts, read_parts};
+pub use sections::{count_between, section_at};

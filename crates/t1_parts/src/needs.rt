@@ -21,16 +21,16 @@ pub(crate) struct Needs {
 }
 
 /// What one item asks.
-pub(crate) fn needs_of(item: &Item) -> Needs
-    ensures needs { AreNeeded result (item.now ∷ []) }
+pub(crate) fn needs_of(item: &ItemRef) -> Needs
+    ensures needs { AreNeeded result (item_of item.now ∷ []) }
     ensures one { result.glyphs ≤ 1 }
 {
     match item {
-        Item::Subr(number, _, _) => Needs {
+        ItemRef::Subr(number, _, _) => Needs {
             subrs: u64::from(*number) + 1,
             glyphs: 0,
         },
-        Item::Glyph(_, _, _) => Needs {
+        ItemRef::Glyph(_, _, _) => Needs {
             subrs: 0,
             glyphs: 1,
         },
@@ -38,19 +38,6 @@ pub(crate) fn needs_of(item: &Item) -> Needs
             subrs: 0,
             glyphs: 0,
         },
-    }
-}
-
-/// What one item asks, where it stands.
-pub(crate) fn needs_there(item: &ItemRef) -> Needs
-    ensures { AreNeeded result (item_of item.now ∷ []) }
-{
-    match item {
-        ItemRef::Line(_line) => Needs {
-            subrs: 0,
-            glyphs: 0,
-        },
-        ItemRef::Item(item) => needs_of(item),
     }
 }
 
@@ -117,7 +104,7 @@ pub(crate) fn ask_the_same(old: &ItemRef, new: &Item) -> bool
         → (subrs_needed (item_of old.now ∷ []) ≡ subrs_needed (new.now ∷ []))
         × (glyphs_needed (item_of old.now ∷ []) ≡ glyphs_needed (new.now ∷ [])) }
 {
-    let before = needs_there(old);
-    let after = needs_of(new);
+    let before = needs_of(old);
+    let after = needs_of(&new.as_ref());
     before.subrs == after.subrs && before.glyphs == after.glyphs
 }

@@ -10,7 +10,6 @@ ghost use Rattle.t1_parts.specs.ItemRefs.{item_of};
 ghost use Rattle.t1_parts.specs.Printing.{word_groups, body_line, last_line, entry_lines};
 ghost use Rattle.t1_parts.specs.Printing.{item_lines};
 
-use crate::item::Item;
 use crate::item_ref::ItemRef;
 use crate::items_iter::ItemsIter;
 use itoa::Buffer;
@@ -104,37 +103,27 @@ fn push_entry(text: &mut Vec<u8>, bytes: &[u8], closing: &[u8]) -> Result<(), Al
 }
 
 /// Adds the lines of an item to a text.
-fn push_item(text: &mut Vec<u8>, item: &Item) -> Result<(), AllocError>
-    ensures { OnOk result (text.new.items ≡ text.old.items ++ joined (item_lines item.now)) }
-{
-    match item {
-        Item::Plain(line) => push_line(text, line.as_slice()),
-        Item::Section(before, count, after) => {
-            text.extend_from_slice(before.as_slice())?;
-            push_decimal(text, *count)?;
-            push_line(text, after.as_slice())
-        }
-        Item::Subr(number, words, closing) => {
-            text.extend_from_slice(b"dup ")?;
-            push_decimal(text, u64::from(*number))?;
-            push_entry(text, words.as_bytes(), closing.as_slice())
-        }
-        Item::Glyph(name, words, closing) => {
-            text.push(b'/')?;
-            text.extend_from_slice(name.as_slice())?;
-            push_entry(text, words.as_bytes(), closing.as_slice())
-        }
-    }
-}
-
-/// Adds the lines of an item where it stands to a text.
-fn push_item_ref(text: &mut Vec<u8>, item: &ItemRef) -> Result<(), AllocError>
+fn push_item(text: &mut Vec<u8>, item: &ItemRef) -> Result<(), AllocError>
     ensures { OnOk result
         (text.new.items ≡ text.old.items ++ joined (item_lines (item_of item.now))) }
 {
     match item {
-        ItemRef::Line(line) => push_line(text, line),
-        ItemRef::Item(item) => push_item(text, item),
+        ItemRef::Plain(line) => push_line(text, line),
+        ItemRef::Section(before, count, after) => {
+            text.extend_from_slice(before)?;
+            push_decimal(text, *count)?;
+            push_line(text, after)
+        }
+        ItemRef::Subr(number, words, closing) => {
+            text.extend_from_slice(b"dup ")?;
+            push_decimal(text, u64::from(*number))?;
+            push_entry(text, words.as_bytes(), closing)
+        }
+        ItemRef::Glyph(name, words, closing) => {
+            text.push(b'/')?;
+            text.extend_from_slice(name)?;
+            push_entry(text, words.as_bytes(), closing)
+        }
     }
 }
 
@@ -144,7 +133,7 @@ pub fn push_items(text: &mut Vec<u8>, items: ItemsIter) -> Result<(), AllocError
         (text.new.items ≡ text.old.items ++ joined (flat_map item_lines items.entry)) }
 {
     for item in items {
-        push_item_ref(text, &item)?;
+        push_item(text, &item)?;
     }
     Ok(())
 }

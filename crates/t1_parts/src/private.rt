@@ -1,8 +1,8 @@
 //! Reading the private part: plain lines, section lines and entries.
 
-ghost use Rattle.std.specs.Prelude.{◌≡◌, ◌||◌, ◌+◌, ◌<◌, ◌^◌, ◌++◌, ◌∷◌, [], ℕ, List, None, Ok};
-ghost use Rattle.std.specs.Prelude.{Err, is_some, length, option_map, take, true, IfErr, IfOk};
-ghost use Rattle.std.specs.Prelude.{IfSome, MatchResult};
+ghost use Rattle.std.specs.Prelude.{◌≡◌, ◌+◌, ◌<◌, ◌^◌, ◌++◌, ◌∷◌, [], ℕ, List, None, Ok};
+ghost use Rattle.std.specs.Prelude.{Err, codes, length, option_map, take, IfErr, IfOk};
+ghost use Rattle.std.specs.Prelude.{MatchOption, MatchResult};
 ghost use Rattle.t1_frac.specs.declared.fault.Place.TheVariants as places;
 ghost use Rattle.t1_frac.specs.Outcome.{Gives, Refuses, reported_at};
 ghost use Rattle.t1_text.specs.Lines.{lines};
@@ -10,31 +10,39 @@ ghost use Rattle.t1_parts.specs.Entries.{has_numbered};
 ghost use Rattle.t1_parts.specs.EntryNames.{glyph_name};
 ghost use Rattle.t1_parts.specs.Stretches.{IsCutAfter};
 ghost use Rattle.t1_parts.specs.Pieces.{AreLinesAfter};
-ghost use Rattle.t1_parts.specs.PlainRuns.{may_open_entry, read_from, AreAmong, IsPlainAmong};
-ghost use Rattle.t1_parts.specs.Sections.{is_subrs_line, is_glyphs_line, subrs_line, glyphs_line};
+ghost use Rattle.t1_parts.specs.PlainRuns.{read_from, AreAmong};
+ghost use Rattle.t1_parts.specs.LineKinds.{IsCountOf, IsOfKind};
+ghost use Rattle.t1_parts.specs.NumberedStretches.{numbered_lines};
+ghost use Rattle.t1_parts.specs.Sections.{is_subrs_line, is_glyphs_line};
 ghost use Rattle.t1_parts.specs.Private.{line_read, item_in_front, items_of, private_items};
 
-use crate::entries::{glyph_entry, opens_glyph, opens_subr, subr_entry};
+use crate::entries::{glyph_entry, subr_entry};
 use crate::gathered::Gathered;
 use crate::item::{Item, Taken};
-use crate::len_iv::line_says;
+use crate::line_kind::{LineKind, kind_of};
 use crate::plain_lines::{PlainLines, next_line};
-use crate::sections::{count_between, section_at};
-use std::alloc::Global;
+use crate::sections::section_at;
+use std::alloc::{AllocError, Global};
 use t1_frac::{Code, Fault, Refusal, SourceText};
 use t1_text::{fault_on, first_line};
 
-/// The section line or the plain line.
+/// The section line or the plain line, of these counts.
 #[tactic(auto, unfolding(crate::specs::Private::line_item))]
-fn line_at<'a>(earlier: &Gathered, number: u64, line: &'a [u8]) -> Result<Item<'a>, Fault>
+fn line_at<'a>(
+    earlier: &Gathered,
+    number: u64,
+    line: &'a [u8],
+    subrs: Option<(usize, &'a [u8])>,
+    glyphs: Option<(usize, &'a [u8])>,
+) -> Result<Item<'a>, Fault>
+    requires subrs { IsCountOf (codes "/Subrs") (codes "array") line.now subrs }
+    requires glyphs { IsCountOf (codes "/CharStrings") (codes "dict") line.now glyphs }
     ensures value { MatchResult
         result
         (λ item. reported_at (places.Line number) (line_read earlier.now line.now) ≡ Ok (item, 0))
         (λ fault. reported_at (places.Line number) (line_read earlier.now line.now) ≡ Err fault) }
     ensures unnamed { IfOk result (λ item. glyph_name item ≡ None) }
 {
-    let subrs = count_between(b"/Subrs", b"array", line);
-    let glyphs = count_between(b"/CharStrings", b"dict", line);
     let item = match (subrs, glyphs) {
         (None, None) => Item::Plain(SourceText::borrowed(line)),
         (Some((at, count)), None) if !earlier.has_subrs_line() && !earlier.has_glyphs_line() => {
@@ -46,15 +54,20 @@ fn line_at<'a>(earlier: &Gathered, number: u64, line: &'a [u8]) -> Result<Item<'
     Ok(item)
 }
 
-/// The item at the front of some bytes, of which the first line has this number.
+/// The item at the front of some bytes, of which the first line has this number and is of this
+/// kind.
 #[tactic(auto, unfolding(crate::specs::Private::item_in_front))]
 fn item_at<'a>(
     alloc: Global,
     earlier: &Gathered,
     number: u64,
+    kind: LineKind<'a>,
     bytes: &'a [u8],
 ) -> Result<Taken<'a>, Refusal>
-    requires { 0 < length bytes.now }
+    requires some { 0 < length bytes.now }
+    requires kind { (l : List ℕ) (ls : List (List ℕ)) → lines bytes.now ≡ l ∷ ls
+        → IsOfKind (has_numbered is_subrs_line earlier.now)
+        (has_numbered is_glyphs_line earlier.now) l kind }
     ensures value { (l : List ℕ) (ls : List (List ℕ)) → lines bytes.now ≡ l ∷ ls → Gives
         (λ taken. (taken.item, taken.more))
         result
@@ -65,16 +78,12 @@ fn item_at<'a>(
         (λ taken. AreLinesAfter (taken.more + 1) bytes.now taken.after.now) }
 {
     let (line, after) = first_line(bytes);
-    if earlier.has_glyphs_line() {
-        if let Some(token) = opens_glyph(line) {
-            return glyph_entry(alloc, earlier, number, token, line, bytes);
-        }
-    } else if earlier.has_subrs_line() {
-        if let Some(token) = opens_subr(line) {
-            return subr_entry(alloc, earlier, number, token, line, bytes);
-        }
-    }
-    let item = line_at(earlier, number, line)?;
+    let item = match kind {
+        LineKind::Subr(token) => return subr_entry(alloc, earlier, number, token, line, bytes),
+        LineKind::Glyph(token) => return glyph_entry(alloc, earlier, number, token, line, bytes),
+        LineKind::Alone(subrs, glyphs) => line_at(earlier, number, line, subrs, glyphs)?,
+        LineKind::Among => Item::Plain(SourceText::borrowed(line)),
+    };
     Ok(Taken {
         item,
         name: None,
@@ -83,93 +92,70 @@ fn item_at<'a>(
     })
 }
 
-/// Whether a line opens an entry.
-fn opens_entry(earlier: &Gathered, line: &[u8]) -> bool
-    ensures { result
-        ≡ may_open_entry (has_numbered is_subrs_line earlier.now)
-        (has_numbered is_glyphs_line earlier.now) line.now }
-{
-    if earlier.has_glyphs_line() {
-        opens_glyph(line).is_some()
-    } else if earlier.has_subrs_line() {
-        opens_subr(line).is_some()
-    } else {
-        false
-    }
-}
-
-/// Whether a line is a section line.
-fn is_section(line: &[u8]) -> bool
-    ensures { result ≡ (is_some (subrs_line line.now) || is_some (glyphs_line line.now)) }
-{
-    let subrs = count_between(b"/Subrs", b"array", line);
-    let glyphs = count_between(b"/CharStrings", b"dict", line);
-    subrs.is_some() || glyphs.is_some()
-}
-
-/// Whether a line may stand among plain lines: it opens nothing and says nothing of lenIV.
-#[tactic(auto, using(crate::proofs::PlainRunLaws::empty_among, crate::proofs::PlainRunLaws::is_among))]
-fn is_among(earlier: &Gathered, line: &[u8]) -> bool
-    ensures { result ≡ true
-        → IsPlainAmong (has_numbered is_subrs_line earlier.now)
-        (has_numbered is_glyphs_line earlier.now) line.now }
-{
-    if line.is_empty() {
-        return true;
-    }
-    if opens_entry(earlier, line) || is_section(line) {
-        return false;
-    }
-    !line_says(line)
-}
-
-/// The number of the lines at the front of some bytes that may stand among plain lines, and the
-/// bytes after them.
-fn past_plain<'a>(earlier: &Gathered, bytes: &'a [u8]) -> (usize, &'a [u8])
+/// The number of the lines at the front of some bytes that may stand among plain lines, the bytes
+/// after them, and what the next line is, where there is one.
+fn past_plain<'a>(earlier: &Gathered, bytes: &'a [u8]) -> (usize, &'a [u8], Option<LineKind<'a>>)
     ensures cut { IsCutAfter result.0 bytes.now result.1.now }
     ensures among { AreAmong (has_numbered is_subrs_line earlier.now)
         (has_numbered is_glyphs_line earlier.now) (take result.0 (lines bytes.now)) }
+    ensures next { MatchOption result.2 (length result.1.now ≡ 0)
+        (λ kind. (0 < length result.1.now) × ((l : List ℕ) (ls : List (List ℕ))
+        → lines result.1.now ≡ l ∷ ls
+        → IsOfKind (has_numbered is_subrs_line earlier.now)
+        (has_numbered is_glyphs_line earlier.now) l kind)) }
 {
     let mut count = 0;
     let mut rest = bytes;
     while !rest.is_empty() {
         let (line, after) = next_line(rest);
-        if !is_among(earlier, line) {
-            return (count, rest);
+        match kind_of(earlier, line) {
+            LineKind::Among => {
+                count += 1;
+                rest = after;
+            }
+            kind => return (count, rest, Some(kind)),
         }
-        count += 1;
-        rest = after;
     }
-    (count, rest)
+    (count, rest, None)
 }
 
-/// The lines at the front of some bytes that may stand among plain lines, where there are some, and
-/// the bytes after them.
-fn plain_front<'a>(earlier: &Gathered, bytes: &'a [u8]) -> Option<(PlainLines<'a>, &'a [u8])>
-    ensures lines { IfSome result (λ front. lines bytes.now ≡ front.0 ++ lines front.1.now) }
-    ensures among { IfSome result
-        (λ front.
-        AreAmong (has_numbered is_subrs_line earlier.now)
-        (has_numbered is_glyphs_line earlier.now) front.0) }
+/// The earlier items and the lines at the front of some bytes, which are so many and may stand
+/// among plain lines.
+fn with_plain<'a>(
+    earlier: Gathered<'a>,
+    number: u64,
+    count: usize,
+    bytes: &'a [u8],
+    rest: &'a [u8],
+) -> Result<Gathered<'a>, AllocError>
+    requires fits { number + length (lines bytes.now) < 2 ^ 64 }
+    requires cut { IsCutAfter count bytes.now rest.now }
+    requires among { AreAmong (has_numbered is_subrs_line earlier)
+        (has_numbered is_glyphs_line earlier) (take count (lines bytes.now)) }
+    ensures { IfOk result
+        (λ items. items ≡ earlier.entry ++ numbered_lines number (take count (lines bytes.now))) }
 {
-    let (count, after) = past_plain(earlier, bytes);
     if count == 0 {
-        return None;
+        return Ok(earlier);
     }
-    let front = bytes.split_at(bytes.len() - after.len()).0;
-    Some((PlainLines::counted(front, count), after))
+    let front = bytes.split_at(bytes.len() - rest.len()).0;
+    earlier.with_lines(number, PlainLines::counted(front, count))
 }
 
 /// The earlier items and the one at the front of some bytes, of which the first line has this
-/// number; the number of the next line; and the bytes from it on.
+/// number and is of this kind; the number of the next line; and the bytes from it on.
 fn read_item<'a>(
     alloc: Global,
     earlier: Gathered<'a>,
     number: u64,
+    kind: LineKind<'a>,
     bytes: &'a [u8],
 ) -> Result<(Gathered<'a>, u64, &'a [u8]), Refusal>
     requires some { 0 < length bytes.now }
     requires fits { number + length (lines bytes.now) < 2 ^ 64 }
+    requires kind { (l : List ℕ) (ls : List (List ℕ)) → lines bytes.now ≡ l ∷ ls
+        → IsOfKind (has_numbered is_subrs_line earlier)
+        (has_numbered is_glyphs_line earlier) l kind }
     ensures read { IfOk result
         (λ read.
         read_from earlier.entry number (lines bytes.now)
@@ -180,14 +166,14 @@ fn read_item<'a>(
     ensures refused { IfErr result
         (λ refusal. Refuses refusal (read_from earlier.entry number (lines bytes.now))) }
 {
-    let taken = item_at(alloc, &earlier, number, bytes)?;
+    let taken = item_at(alloc, &earlier, number, kind, bytes)?;
     let items = earlier.with(number, taken.item, taken.name)?;
     Ok((items, number + (taken.more as u64 + 1), taken.after))
 }
 
 /// The earlier items and those at the front of some bytes, of which the first line has this number:
-/// plain lines that follow one another, or one item; the number of the next line; and the bytes
-/// from it on.
+/// plain lines that follow one another, and the item after them; the number of the next line; and
+/// the bytes from it on. Each line is asked once what it is.
 fn read_front<'a>(
     alloc: Global,
     earlier: Gathered<'a>,
@@ -206,12 +192,13 @@ fn read_front<'a>(
     ensures refused { IfErr result
         (λ refusal. Refuses refusal (read_from earlier.entry number (lines bytes.now))) }
 {
-    if let Some((plain, after)) = plain_front(&earlier, bytes) {
-        let next = number + plain.len() as u64;
-        let items = earlier.with_lines(number, plain)?;
-        return Ok((items, next, after));
-    }
-    read_item(alloc, earlier, number, bytes)
+    let (count, rest, next) = past_plain(&earlier, bytes);
+    let items = with_plain(earlier, number, count, bytes, rest)?;
+    let further = number + count as u64;
+    let Some(kind) = next else {
+        return Ok((items, further, rest));
+    };
+    read_item(alloc, items, further, kind, rest)
 }
 
 /// The items of some bytes, of which the first line has this number, each with the number of its

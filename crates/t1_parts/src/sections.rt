@@ -3,9 +3,11 @@
 ghost use Rattle.std.specs.Prelude.{◌≡◌, ◌+◌, ◌≤◌, ◌<◌, ◌^◌, IfSome, IsTrue, length, option_map};
 ghost use Rattle.t1_text.specs.Tokens.{places_from};
 ghost use Rattle.t1_text.specs.Names.{is_count};
+ghost use Rattle.t1_parts.specs.ItemRefs.{item_of};
 ghost use Rattle.t1_parts.specs.Sections.{count_between, section_at, is_subrs_line, is_glyphs_line};
 
 use crate::item::Item;
+use crate::item_ref::ItemRef;
 use t1_frac::SourceText;
 use t1_text::{count_of, is_count, last_is, next_place, same};
 
@@ -54,22 +56,24 @@ pub fn section_at<'a>(line: &'a [u8], at: usize, count: &[u8]) -> Item<'a>
     Item::Section(before, count_of(count), after)
 }
 
-/// Whether an item is the Subrs line.
-pub fn is_subrs_line(item: &Item) -> bool
-    ensures { result ≡ is_subrs_line item.now }
-{
-    match item {
-        Item::Section(before, _, _) => last_is(b"/Subrs", before.as_slice()),
-        _ => false,
+impl<'i, 'a> ItemRef<'i, 'a> {
+    /// Whether it is the Subrs line.
+    pub fn is_subrs_line(&self) -> bool
+        ensures { result ≡ is_subrs_line (item_of self.now) }
+    {
+        match self {
+            ItemRef::Section(before, _, _) => last_is(b"/Subrs", before),
+            _ => false,
+        }
     }
-}
 
-/// Whether an item is the CharStrings line.
-pub fn is_glyphs_line(item: &Item) -> bool
-    ensures { result ≡ is_glyphs_line item.now }
-{
-    match item {
-        Item::Section(before, _, _) => last_is(b"/CharStrings", before.as_slice()),
-        _ => false,
+    /// Whether it is the CharStrings line.
+    pub fn is_glyphs_line(&self) -> bool
+        ensures { result ≡ is_glyphs_line (item_of self.now) }
+    {
+        match self {
+            ItemRef::Section(before, _, _) => last_is(b"/CharStrings", before),
+            _ => false,
+        }
     }
 }

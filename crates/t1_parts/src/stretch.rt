@@ -16,7 +16,6 @@ use crate::counts::raise_item;
 use crate::entry_key::{EntryKey, ItemKind};
 use crate::item::Item;
 use crate::item_ref::ItemRef;
-use crate::len_iv::says_lead;
 use crate::plain_lines::PlainLines;
 use std::alloc::{AllocError, Global};
 
@@ -61,7 +60,13 @@ impl<'a> Stretch<'a> {
             (λ item. (self.now ≡ stretches.One item.now) × (says_lead item.now ≡ true)) }
     {
         match self {
-            Stretch::One(item) => { if says_lead(item) { Some(item) } else { None } }
+            Stretch::One(item) => {
+                if item.as_ref().says_lead() {
+                    Some(item)
+                } else {
+                    None
+                }
+            }
             Stretch::Lines(plain) => {
                 let _len = plain.len();
                 None
@@ -114,8 +119,8 @@ impl<'a> Stretch<'a> {
         ensures { (d : Item) → slice_index_or (stretch_items self.now) at d ≡ item_of result }
     {
         match self {
-            Stretch::One(item) => ItemRef::Item(item),
-            Stretch::Lines(plain) => ItemRef::Line(plain.line(at)),
+            Stretch::One(item) => item.as_ref(),
+            Stretch::Lines(plain) => ItemRef::Plain(plain.line(at)),
         }
     }
 

@@ -9,7 +9,7 @@ ghost use Rattle.t1_parts.specs.Items.{items_in, stretch_items};
 ghost use Rattle.t1_parts.specs.Starts.{AreStarts, starts_from};
 ghost use Rattle.t1_parts.specs.Stretches.{raised_stretch, StandsAloneAt, IsPlaceOfItem};
 
-use crate::entry_counts::{EntryCounts, is_entry, is_entry_alone};
+use crate::entry_counts::{EntryCounts, is_entry_alone};
 use crate::item::Item;
 use crate::starts::{copied_starts, last_start, lower_starts, raise_starts};
 use crate::stretch::Stretch;
@@ -222,7 +222,7 @@ impl<'a> Stretches<'a> {
         ensures ok { OnOk result (self.new ≡ self.old ++ One item.entry ∷ []) }
         ensures err { OnErr result (self.new ≡ self.old) }
     {
-        let is_entry = is_entry(&item);
+        let is_entry = item.as_ref().is_entry();
         if let Err(error) = self.entries.reserve() {
             drop(item);
             return Err(error);
@@ -256,7 +256,7 @@ impl<'a> Stretches<'a> {
         ensures ok { OnOk result (self.new ≡ insert self.old index (One item.entry)) }
         ensures err { OnErr result (self.new ≡ self.old) }
     {
-        let is_entry = is_entry(&item);
+        let is_entry = item.as_ref().is_entry();
         if let Err(error) = self.entries.reserve() {
             drop(item);
             return Err(error);
@@ -391,7 +391,7 @@ impl<'a> Stretches<'a> {
         let stretch = &self.stretches[index];
         let was_entry = is_entry_alone(stretch);
         if stretch.len() == 1 {
-            let is_entry = is_entry(&item);
+            let is_entry = item.as_ref().is_entry();
             put_stretch(&mut self.stretches, index, Stretch::One(item));
             self.entries.put(index, was_entry, is_entry);
             return Ok(());

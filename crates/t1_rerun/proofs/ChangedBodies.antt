@@ -19,11 +19,11 @@ use Rattle.t1_font.specs.KeptBodies.{SameBodies}
 use Rattle.t1_font.specs.Assembly.{file_check}
 use Rattle.t1_font.specs.Glyphs.{Glyph as Reported, glyphs, glyph_names}
 use Rattle.t1_font.specs.SourceChecks.{source_check, source_glyphs}
-use Rattle.t1_cache.specs.declared.records.Named.{Named}
+use Rattle.t1_font.specs.declared.owned_key.OwnedKey.{OwnedKey}
 use Rattle.t1_cache.specs.declared.records.Records.{Records}
 use Rattle.t1_cache.specs.Bodies.{record_bodies}
 use Rattle.t1_cache.specs.Edited.{IsEditedAt}
-use Rattle.t1_cache.specs.EditKeys.{key_of}
+use Rattle.t1_font.specs.OwnedKeys.{key_of}
 use Rattle.t1_font.proofs.Keys.{key-itself, key-same}
 use Rattle.t1_cache.proofs.Distinct.{names_distinct}
 use Rattle.t1_cache.specs.Laws.{AreDistinct}
@@ -110,7 +110,7 @@ module _ (changes : List EntryChange) (old new : SourceParts) (records : Records
     by (Some body) e = sym (set-is new changes k body j.bodies e)
     by None e = at-same (record_bodies records) (bodies old.items) k j.right.compiled ∙ kept-there k (unset-unnamed changes k e)
 
-  module _ (edits : List Named) (keys : map key_of edits ≡ changed_keys changes) (m : FontBodies)
+  module _ (edits : List OwnedKey) (keys : map key_of edits ≡ changed_keys changes) (m : FontBodies)
       (are : (k : Key) → body_at m k ≡ after_change (body_changed changes k) (body_at (record_bodies records) k)) where
     pub is-edit : IsEdit edits old new records m ordered
     is-edit = record {

@@ -17,8 +17,8 @@ use Rattle.t1_afm.specs.declared.bbox.BBox.{BBox}
 use Rattle.t1_font.specs.Bodies.{bodies}
 use Rattle.t1_font.specs.KeptBodies.{SameBodies}
 use Rattle.t1_font.specs.Glyphs.{glyph_names}
-use Rattle.t1_cache.specs.declared.records.Named.{Named}
-use Rattle.t1_cache.specs.declared.records.Named.TheVariants as named
+use Rattle.t1_font.specs.declared.owned_key.OwnedKey.{OwnedKey}
+use Rattle.t1_font.specs.declared.owned_key.OwnedKey.TheVariants as named
 use Rattle.t1_cache.specs.declared.records.Records.{Records}
 use Rattle.t1_cache.specs.declared.records.Rerun.{Rerun}
 use Rattle.t1_cache.specs.Bodies.{record_bodies}
@@ -27,7 +27,7 @@ use Rattle.t1_cache.specs.Recorded.{IsOneOf, RecordedGlyph, kept_of}
 use Rattle.t1_cache.specs.Renewed.{kept, rerun_of, reruns_by_name, with_rerun, with_reruns}
 use Rattle.t1_cache.specs.Room.{MayJoin}
 use Rattle.t1_cache.specs.Users.{among, has_pair, lists, rest_of, users_at, pairs_of_key, HasUserRoom}
-use Rattle.t1_cache.specs.EditKeys.{key_of}
+use Rattle.t1_font.specs.OwnedKeys.{key_of}
 use Rattle.t1_font.proofs.Keys.{key-itself, key-same, at-same, same-at}
 use Rattle.t1_cache.proofs.Changing.{rest_same}
 use Rattle.t1_cache.proofs.Judging.{unnamed}
@@ -157,7 +157,7 @@ module _ (changes : List EntryChange) (old new : SourceParts) (before : Records)
 
   served-one : (c : EntryChange) → HasBody new c → list_any (key_eq (key_of c.named)) keys ≡ true → IsServed run count before c
   served-one c has on last lacks = by c.named refl has on last lacks where
-    by : (d : Named) → c.named ≡ d → body_at n (key_of d) ≡ c.body → list_any (key_eq (key_of d)) keys ≡ true → is_last before c.moved d ≡ true
+    by : (d : OwnedKey) → c.named ≡ d → body_at n (key_of d) ≡ c.body → list_any (key_eq (key_of d)) keys ≡ true → is_last before c.moved d ≡ true
         → LacksRun run d → c.body ≡ None
     by (named.Subr x) e has on last lacks = absurd lacks
     by (named.Glyph g) e has on last lacks = sym has ∙ unserved g on lacks (n.glyphs g) refl

@@ -38,7 +38,8 @@ use Rattle.t1_font.specs.Bodies.{bodies_check, body_check, words_check}
 use Rattle.t1_font.proofs.LengthLaws.{body_fault_reported}
 use Rattle.t1_font.proofs.Checking.{raised-checks, check-both}
 use Rattle.t1_cache.specs.Edited.{body_after, IsEditedAt}
-use Rattle.t1_cache.specs.EditKeys.{named, key_of}
+use Rattle.t1_cache.specs.EditKeys.{named}
+use Rattle.t1_font.specs.OwnedKeys.{key_of}
 use Rattle.t1_cache.proofs.Accepted.{glyph_at, last_glyph, last_subr, new_glyph, new_subr, subr_at, added_glyph-made, added_subr-made, encoded-made, lead-made, removed_glyph-made, removed_subr-made, replaced_glyph-made, replaced_subr-made, unencoded-made, IsLeadMade, IsOut, IsPut, LeadIn, LeadPut}
 use Rattle.t1_cache.proofs.EditedBodies.{body_edited}
 use Rattle.t1_cache.proofs.Edits.{edits_named}

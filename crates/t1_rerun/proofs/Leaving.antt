@@ -14,7 +14,7 @@ use Rattle.t1_cache.specs.Bodies.{record_bodies}
 use Rattle.t1_cache.specs.Renewed.{kept}
 use Rattle.t1_cache.specs.Recorded.{RecordedGlyph, kept_of}
 use Rattle.t1_cache.specs.Users.{is_name_among, is_key_among, users_at}
-use Rattle.t1_cache.specs.EditKeys.{key_of}
+use Rattle.t1_font.specs.OwnedKeys.{key_of}
 use Rattle.t1_cache.proofs.Filtering.{filter-all, filter-both, filter-same}
 use Rattle.t1_font.proofs.Lookups.{bytes_tell, bytes-turned}
 use Rattle.t1_font.proofs.Keys.{glyph-key}

@@ -16,8 +16,8 @@ use Rattle.t1_run.specs.Run.{Key, Subr, Glyph}
 use Rattle.t1_run.specs.RunKeys.{body_at, key_eq}
 use Rattle.t1_extent.specs.Kept.{TracedRun}
 use Rattle.t1_afm.specs.declared.bbox.BBox.{BBox}
-use Rattle.t1_cache.specs.declared.records.Named.{Named}
-use Rattle.t1_cache.specs.declared.records.Named.TheVariants as named
+use Rattle.t1_font.specs.declared.owned_key.OwnedKey.{OwnedKey}
+use Rattle.t1_font.specs.declared.owned_key.OwnedKey.TheVariants as named
 use Rattle.t1_cache.specs.declared.records.NewRun.{NewRun}
 use Rattle.t1_cache.specs.declared.records.Records.{Records}
 use Rattle.t1_cache.specs.declared.records.Rerun.{Rerun}
@@ -27,7 +27,7 @@ use Rattle.t1_cache.specs.Kept.{KeepsAll}
 use Rattle.t1_cache.specs.Renewed.{rerun_of, reruns_by_name}
 use Rattle.t1_cache.specs.Recorded.{kept_of}
 use Rattle.t1_cache.specs.Users.{among, glyph_users, subr_users, users_at}
-use Rattle.t1_cache.specs.EditKeys.{key_of}
+use Rattle.t1_font.specs.OwnedKeys.{key_of}
 use Rattle.t1_rerun.specs.declared.entry_change.EntryChange.{EntryChange}
 use Rattle.t1_rerun.specs.declared.settling.steps.RecordChange.{RecordChange}
 use Rattle.t1_rerun.specs.declared.settling.steps.RecordChange.TheVariants as steps
@@ -104,7 +104,7 @@ run-taken name old new g gone =
 pub step-by : (run run' : List ℕ → Option (TracedRun × Option BBox)) (count : Key → ℕ) (records : Records) (c : EntryChange) (s : RecordChange)
     → ((g : List ℕ) → c.named ≡ named.Glyph g → run g ≡ run' g) → IsStepOf run count records c s → IsStepOf run' count records c s
 step-by run run' count records c (steps.Remove d) same is = (is.0, by is.1) where
-  lacks : (d : Named) → c.named ≡ d → LacksRun run d → LacksRun run' d
+  lacks : (d : OwnedKey) → c.named ≡ d → LacksRun run d → LacksRun run' d
   lacks (named.Subr n) e h = h
   lacks (named.Glyph g) e h = sym (same g e) ∙ h
 
@@ -171,7 +171,7 @@ pub if-ok : {X E : Type 0} (P Q : X → Type 0) (r : Result X E) → IfOk r P �
 if-ok P Q (Ok x) h step = step x h
 if-ok P Q (Err e) h step = tt
 
-pub step-of : (c : EntryChange) (d : Named) (body : List Command) (run : List ℕ → Option (TracedRun × Option BBox)) (count : Key → ℕ) (records : Records) (s : RecordChange)
+pub step-of : (c : EntryChange) (d : OwnedKey) (body : List Command) (run : List ℕ → Option (TracedRun × Option BBox)) (count : Key → ℕ) (records : Records) (s : RecordChange)
     → c.named ≡ d → c.body ≡ Some body → IsStepOf run count records (entry_change d (Some body) c.moved) s → IsStepOf run count records c s
 step-of c d body run count records s e f is =
     let same : c ≡ entry_change d (Some body) c.moved = (λ j. record { named = e j; body = f j; moved = c.moved }) in

@@ -19,7 +19,7 @@ use Rattle.t1_font.specs.MetricsByRuns.{glyph_metrics_among}
 use Rattle.t1_font.specs.Runs.{NamedRun as KeptRun, run_kept, drawing_in as run_of, own_among, AreTraced, Counts, IsNumberedAfter}
 use Rattle.t1_font.specs.RunCounts.{counted}
 use Rattle.t1_font.specs.SourceChecks.{source_check}
-use Rattle.t1_cache.specs.declared.records.Named.{Named}
+use Rattle.t1_font.specs.declared.owned_key.OwnedKey.{OwnedKey}
 use Rattle.t1_cache.specs.declared.records.Records.{Records}
 use Rattle.t1_cache.specs.declared.records.Rerun.{Rerun}
 use Rattle.t1_cache.specs.Edited.{stale}
@@ -27,7 +27,7 @@ use Rattle.t1_cache.specs.Renewal.{kept_by}
 use Rattle.t1_cache.specs.Recorded.{IsFromScratch}
 use Rattle.t1_cache.specs.Renewed.{recorded_run}
 use Rattle.t1_cache.specs.Users.{is_name_among, has_pair}
-use Rattle.t1_cache.specs.EditKeys.{key_of}
+use Rattle.t1_font.specs.OwnedKeys.{key_of}
 use Rattle.t1_rerun.specs.declared.renewal.Renewal.{Renewal}
 use Rattle.t1_rerun.specs.Newest.{newest_among}
 use Rattle.t1_rerun.specs.Renewals.{rerun_names, IsLater, IsRenewal, IsMeasuredRerun}
@@ -100,7 +100,7 @@ all-later count runs metrics after (r ∷ rs) h = (subst (IsNumberedAfter count)
 
 -- ---- an edit
 
-module _ (edits : List Named) (old new : SourceParts) (records : Records) (m : FontBodies) (names : List (List ℕ)) (e : IsEdit edits old new records m names)
+module _ (edits : List OwnedKey) (old new : SourceParts) (records : Records) (m : FontBodies) (names : List (List ℕ)) (e : IsEdit edits old new records m names)
     (have : AllByRecursion (λ g. (b : List Command) × (m.glyphs g ≡ Some b)) names)
     (found : List ℕ → Bool) (reached : AreStale (bodies old.items) (map key_of edits) found) (some : List (List ℕ)) (some-are : some ≡ filter found names) where
   there : AllByRecursion (λ g. (b : List Command) × ((bodies new.items).glyphs g ≡ Some b)) (glyph_names new.items)

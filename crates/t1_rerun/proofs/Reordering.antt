@@ -32,14 +32,14 @@ use Rattle.t1_font.specs.Runs.{NamedRun as KeptRun, drawing_in as run_of, own_am
 use Rattle.t1_font.specs.SourceChecks.{source_check}
 use Rattle.t1_font.proofs.LengthLaws.{body_fault_reported}
 use Rattle.t1_font.proofs.Measuring.{names-there, same-function}
-use Rattle.t1_cache.specs.declared.records.Named.{Named}
+use Rattle.t1_font.specs.declared.owned_key.OwnedKey.{OwnedKey}
 use Rattle.t1_cache.specs.declared.records.Records.{Records}
 use Rattle.t1_cache.specs.declared.records.Rerun.{Rerun}
 use Rattle.t1_cache.specs.Edited.{stale}
 use Rattle.t1_cache.specs.Laws.{AreDistinct}
 use Rattle.t1_cache.specs.Renewed.{recorded_run}
 use Rattle.t1_cache.specs.Users.{is_name_among, has_pair}
-use Rattle.t1_cache.specs.EditKeys.{key_of}
+use Rattle.t1_font.specs.OwnedKeys.{key_of}
 use Rattle.t1_cache.proofs.Counting.{found_count}
 use Rattle.t1_cache.proofs.Lists.{all-weaken, all-at}
 use Rattle.t1_font.proofs.Lookups.{bytes_tell}
@@ -245,7 +245,7 @@ module _ (s : SourceParts) (file : file_check s ≡ Ok tt) where
         let never : ◌≡◌ {A = Option (List Command)} None (Some there.0) = sym is ∙ there.1 in
         absurd (cc)
 
-module _ (edits : List Named) (old new : SourceParts) (records : Records) (m : FontBodies) (names : List (List ℕ)) (e : IsEdit edits old new records m names)
+module _ (edits : List OwnedKey) (old new : SourceParts) (records : Records) (m : FontBodies) (names : List (List ℕ)) (e : IsEdit edits old new records m names)
     (found : List ℕ → Bool) (reached : AreStale (bodies old.items) (map key_of edits) found)
     (these : List (List ℕ)) (these-are : (g : List ℕ) → list_any (bytes_eq g) these ≡ (found g && is_some (m.glyphs g))) where
   -- each glyph of the edited source has a body

@@ -14,13 +14,13 @@ use Rattle.t1_run.specs.RunKeys.{body_at}
 use Rattle.t1_run.specs.Touched.{is_key_of}
 use Rattle.t1_font.specs.Bodies.{bodies}
 use Rattle.t1_font.specs.Glyphs.{glyph_names}
-use Rattle.t1_cache.specs.declared.records.Named.{Named}
-use Rattle.t1_cache.specs.declared.records.Named.TheVariants as named
+use Rattle.t1_font.specs.declared.owned_key.OwnedKey.{OwnedKey}
+use Rattle.t1_font.specs.declared.owned_key.OwnedKey.TheVariants as named
 use Rattle.t1_cache.specs.Edited.{IsEditedAt}
 use Rattle.t1_cache.specs.Kept.{KeepsAll}
 use Rattle.t1_cache.specs.Laws.{AreDistinct}
 use Rattle.t1_cache.specs.Recorded.{RecordedGlyph}
-use Rattle.t1_cache.specs.EditKeys.{key_of}
+use Rattle.t1_font.specs.OwnedKeys.{key_of}
 use Rattle.t1_font.proofs.Lookups.{bytes_tell}
 use Rattle.t1_rerun.specs.declared.entry_change.EntryChange.{EntryChange}
 use Rattle.t1_rerun.specs.Right.{has_glyph, IsInOrder}
@@ -77,16 +77,16 @@ module _ (old new : SourceParts) (keeps : (ks : List RecordedGlyph) × KeepsAll 
   old-has : (g : List ℕ) → has_glyph old g ≡ is_some ((bodies old.items).glyphs g)
   old-has = has-body old keeps.1.glyphs keeps.1.faultless
 
-  not-in : (d : Named) (g : List ℕ) → is_key_of g (key_of d) ≡ false → Includes (key_of d ∷ []) (Glyph g) → ⊥
+  not-in : (d : OwnedKey) (g : List ℕ) → is_key_of g (key_of d) ≡ false → Includes (key_of d ∷ []) (Glyph g) → ⊥
   not-in d g off (inl e) = let never : true ≡ false = sym (bytes_tell.itself g) ∙ ap (is_key_of g) (sym e) ∙ off in absurd (cc)
   not-in d g off (inr i) = i
 
   -- a glyph that isn't named is there where it was
-  same-else : (d : Named) → IsEditedAt (key_of d ∷ []) old new → (g : List ℕ) → is_key_of g (key_of d) ≡ false → has_glyph old g ≡ has_glyph new g
+  same-else : (d : OwnedKey) → IsEditedAt (key_of d ∷ []) old new → (g : List ℕ) → is_key_of g (key_of d) ≡ false → has_glyph old g ≡ has_glyph new g
   same-else d edit g off = old-has g ∙ ap is_some (edit.bodies.same (Glyph g) (not-in d g off)) ∙ sym (new-has g)
 
   -- the new glyphs are those that the change makes so
-  last-one : (d : Named) (body : Option (List Command)) → IsEditedAt (key_of d ∷ []) old new → body_at (bodies new.items) (key_of d) ≡ body
+  last-one : (d : OwnedKey) (body : Option (List Command)) → IsEditedAt (key_of d ∷ []) old new → body_at (bodies new.items) (key_of d) ≡ body
       → filter (λ g. not (has_glyph old g)) (glyph_names new.items) ≡ last_glyph old false body d
   last-one (named.Subr n) body edit has =
       filter-as (λ g. not (has_glyph old g)) (λ g. false) (glyph_names new.items)
@@ -143,7 +143,7 @@ module _ (old new : SourceParts) (keeps : (ks : List RecordedGlyph) × KeepsAll 
       (λ g there. ap not (old-has g ∙ ap is_some (edit.bodies.same (Glyph g) (λ i. i)) ∙ sym (new-has g) ∙ there))
       ∙ filter-none (glyph_names new.items)
 
-last-glyph-unmoved : (old : SourceParts) (moved : Bool) (body : Option (List Command)) (d : Named) → ((g : List ℕ) → ((moved && is_key_of g (key_of d)) || false) ≡ false)
+last-glyph-unmoved : (old : SourceParts) (moved : Bool) (body : Option (List Command)) (d : OwnedKey) → ((g : List ℕ) → ((moved && is_key_of g (key_of d)) || false) ≡ false)
     → last_glyph old false body d ≡ last_glyph old moved body d
 last-glyph-unmoved old false body d none = refl
 last-glyph-unmoved old true None d none = refl

@@ -16,15 +16,15 @@ use Rattle.t1_run.specs.RunKeys.{body_at, key_eq}
 use Rattle.t1_extent.specs.Kept.{TracedRun}
 use Rattle.t1_run.specs.Touched.{is_key_of}
 use Rattle.t1_afm.specs.declared.bbox.BBox.{BBox}
-use Rattle.t1_cache.specs.declared.records.Named.{Named}
-use Rattle.t1_cache.specs.declared.records.Named.TheVariants as named
+use Rattle.t1_font.specs.declared.owned_key.OwnedKey.{OwnedKey}
+use Rattle.t1_font.specs.declared.owned_key.OwnedKey.TheVariants as named
 use Rattle.t1_cache.specs.declared.records.Records.{Records}
 use Rattle.t1_cache.specs.Bodies.{record_bodies}
 use Rattle.t1_cache.specs.Renewed.{kept}
 use Rattle.t1_cache.specs.Recorded.{RecordedGlyph}
 use Rattle.t1_cache.specs.Room.{MayJoin}
 use Rattle.t1_cache.specs.Users.{among, is_name_among, users_of, UserSet}
-use Rattle.t1_cache.specs.EditKeys.{key_of}
+use Rattle.t1_font.specs.OwnedKeys.{key_of}
 use Rattle.t1_font.proofs.Keys.{key-same, glyph-key}
 use Rattle.t1_cache.proofs.Lists.{all-weaken, all-last}
 use Rattle.t1_cache.proofs.Filtering.{filter-all, filter-both}
@@ -75,7 +75,7 @@ all-passing P Q p step (x ∷ xs) all = by (p x) refl (all-passing P Q p step xs
   by true on rest = (step x on all.0, rest)
   by false off rest = rest
 
-pub kept-but-subr : (n : ℕ) (d : Named) (xs : List RecordedGlyph) → d ≡ named.Subr n → xs ≡ filter (λ k. not (is_key_of k.name (key_of d))) xs
+pub kept-but-subr : (n : ℕ) (d : OwnedKey) (xs : List RecordedGlyph) → d ≡ named.Subr n → xs ≡ filter (λ k. not (is_key_of k.name (key_of d))) xs
 kept-but-subr n d xs e = sym (all xs) ∙ ap (λ x. filter (λ k. not (is_key_of k.name (key_of x))) xs) (sym e) where
   all : (ks : List RecordedGlyph) → filter (λ k. true) ks ≡ ks
   all [] = refl
@@ -100,7 +100,7 @@ module _ (run : List ℕ → Option (TracedRun × Option BBox)) (count : Key →
   key-step c (steps.InsertSubr n r) h = ap key_of (sym h.0)
   key-step c (steps.InsertGlyph name r) h = ap key_of (sym h.0)
 
-  gone : (c : EntryChange) (named : Named) → IsServed c → c.named ≡ named → (c.body ≡ None) ⊎ ((is_last records c.moved named ≡ true) × LacksRun run named) → c.body ≡ None
+  gone : (c : EntryChange) (named : OwnedKey) → IsServed c → c.named ≡ named → (c.body ≡ None) ⊎ ((is_last records c.moved named ≡ true) × LacksRun run named) → c.body ≡ None
   gone c named served is (inl none) = none
   gone c named served is (inr lacks) =
       served (ap (is_last records c.moved) is ∙ lacks.0) (subst (LacksRun run) (sym is) lacks.1)
@@ -229,7 +229,7 @@ module _ (run : List ℕ → Option (TracedRun × Option BBox)) (count : Key →
     abbrev last_of : EntryChange → List (List ℕ)
     last_of c = last_glyph old c.moved c.body c.named
 
-    last-is : (moved : Bool) (body : List Command) (d : Named) → is_last records moved d ≡ false → last_glyph old moved (Some body) d ≡ []
+    last-is : (moved : Bool) (body : List Command) (d : OwnedKey) → is_last records moved d ≡ false → last_glyph old moved (Some body) d ≡ []
     last-is moved body (named.Subr n) e = refl
     last-is moved body (named.Glyph g) e = ap (λ b. cond b (g ∷ []) []) (ap (λ b. moved || b) (sym (there g)) ∙ e)
 
@@ -286,7 +286,7 @@ module _ (run : List ℕ → Option (TracedRun × Option BBox)) (count : Key →
             ∙ ap (λ b. bytes_eq g name.items && b) (ap (is_last records c.moved) (sym h.0) ∙ h.1.1.0))
 
     -- a glyph that stands last stays there, where no other change names it
-    last-stays : (moved : Bool) (body : Option (List Command)) (d : Named) (cs : List EntryChange) → list_any (key_eq (key_of d)) (changed_keys cs) ≡ false
+    last-stays : (moved : Bool) (body : Option (List Command)) (d : OwnedKey) (cs : List EntryChange) → list_any (key_eq (key_of d)) (changed_keys cs) ≡ false
         → filter (λ g. not (leaves cs g)) (last_glyph old moved body d) ≡ last_glyph old moved body d
     last-stays moved None d cs off = refl
     last-stays moved (Some body) (named.Subr n) cs off = refl
@@ -339,7 +339,7 @@ module _ (run : List ℕ → Option (TracedRun × Option BBox)) (count : Key →
         none-some None = refl
         none-some (Some body) = refl
 
-        one : (d : Named) → c.named ≡ d → (b : Bool) → is_key_of g (key_of c.named) ≡ b
+        one : (d : OwnedKey) → c.named ≡ d → (b : Bool) → is_key_of g (key_of c.named) ≡ b
             → leaves_at c g ≡ (is_key_of g (key_of c.named) && (not (has_glyph new g) || c.moved))
         one d is false e =
             ap (λ t. t && (is_none c.body || is_last records c.moved c.named)) e

@@ -17,7 +17,8 @@ use Rattle.t1_source.specs.WellFormed.{IsWellFormed}
 use Rattle.t1_run.specs.Run.{Key, Subr, Glyph}
 use Rattle.t1_font.specs.Bodies.{bodies_check}
 use Rattle.t1_cache.specs.Edited.{IsEditedAt}
-use Rattle.t1_cache.specs.EditKeys.{named, key_of}
+use Rattle.t1_cache.specs.EditKeys.{named}
+use Rattle.t1_font.specs.OwnedKeys.{key_of}
 use Rattle.t1_rerun.specs.declared.entry_change.EntryChange.{EntryChange}
 use Rattle.t1_rerun.specs.Right.{IsInOrder}
 use Rattle.t1_rerun.specs.Settled.{changed_keys, was_moved, HasBody}

@@ -8,7 +8,7 @@ use Rattle.t1_font.specs.Assembly.{file_check}
 use Rattle.t1_font.specs.Bodies.{bodies}
 use Rattle.t1_font.specs.KeptBodies.{SameBodies}
 use Rattle.t1_font.specs.Glyphs.{glyph_names}
-use Rattle.t1_cache.specs.declared.records.Named.{Named}
+use Rattle.t1_font.specs.declared.owned_key.OwnedKey.{OwnedKey}
 use Rattle.t1_cache.specs.declared.records.Records.{Records}
 use Rattle.t1_cache.specs.Bodies.{record_bodies}
 use Rattle.t1_cache.specs.Edited.{IsEditedAt}
@@ -16,7 +16,7 @@ use Rattle.t1_cache.specs.Kept.{KeepsAll}
 use Rattle.t1_cache.specs.Laws.{AreDistinct}
 use Rattle.t1_cache.specs.Recorded.{kept_of}
 use Rattle.t1_cache.specs.Tables.{AreTables}
-use Rattle.t1_cache.specs.EditKeys.{key_of}
+use Rattle.t1_font.specs.OwnedKeys.{key_of}
 
 -- word: the records are those of the source from scratch: the bodies of its Subrs and glyphs, its glyphs' runs and
 -- boxes, and the users of each Subr and glyph
@@ -38,7 +38,7 @@ IsInOrder gone old new =
 
 -- word: a source whose records are right was edited, and the edited one has its file: the bodies and the glyphs'
 -- names of the edited one
-pub record IsEdit (edits : List Named) (old new : SourceParts) (records : Records) (m : FontBodies) (glyphs : List (List ℕ)) : Type 0 where
+pub record IsEdit (edits : List OwnedKey) (old new : SourceParts) (records : Records) (m : FontBodies) (glyphs : List (List ℕ)) : Type 0 where
   pub right : IsRight old records
   pub edited : IsEditedAt (map key_of edits) old new
   pub file : file_check new ≡ Ok tt

@@ -11,8 +11,8 @@ use Rattle.t1_font.specs.Bodies.{bodies}
 use Rattle.t1_font.specs.KeptBodies.{SameBodies}
 use Rattle.t1_font.specs.Glyphs.{glyph_names}
 use Rattle.t1_font.specs.SourceChecks.{source_check}
-use Rattle.t1_cache.specs.declared.records.Named.{Named}
-use Rattle.t1_cache.specs.declared.records.Named.TheVariants as named
+use Rattle.t1_font.specs.declared.owned_key.OwnedKey.{OwnedKey}
+use Rattle.t1_font.specs.declared.owned_key.OwnedKey.TheVariants as named
 use Rattle.t1_cache.specs.declared.records.Records.{Records}
 use Rattle.t1_cache.specs.declared.records.Rerun.{Rerun}
 use Rattle.t1_cache.specs.Bodies.{record_bodies}
@@ -23,7 +23,7 @@ use Rattle.t1_cache.specs.Recorded.{IsOneOf, RecordedGlyph, kept_of}
 use Rattle.t1_cache.specs.Renewed.{reruns_by_name}
 use Rattle.t1_cache.specs.Room.{MayJoin}
 use Rattle.t1_cache.specs.Users.{lists, users_at, pairs_of_key}
-use Rattle.t1_cache.specs.EditKeys.{key_of}
+use Rattle.t1_font.specs.OwnedKeys.{key_of}
 use Rattle.t1_rerun.specs.declared.renewal.Renewal.{Renewal}
 use Rattle.t1_rerun.specs.declared.entry_change.EntryChange.{EntryChange}
 use Rattle.t1_rerun.specs.declared.settling.Ready.{Ready}
@@ -49,7 +49,7 @@ abbrev pub was_moved : List EntryChange → List ℕ → Bool
 was_moved changes g = list_any (λ c. c.moved && is_key_of g (key_of c.named)) changes
 
 -- word: the glyph of a change, where it has a body and was moved, or wasn't there
-abbrev pub last_glyph : SourceParts → Bool → Option (List Command) → Named → List (List ℕ)
+abbrev pub last_glyph : SourceParts → Bool → Option (List Command) → OwnedKey → List (List ℕ)
 last_glyph old moved None named = []
 last_glyph old moved (Some body) (named.Subr n) = []
 last_glyph old moved (Some body) (named.Glyph g) = if moved || not (has_glyph old g) then g ∷ [] else []

@@ -12,8 +12,8 @@ use Rattle.t1_run.specs.RunKeys.{body_at, key_eq}
 use Rattle.t1_extent.specs.Kept.{TracedRun}
 use Rattle.t1_run.specs.Touched.{is_key_of}
 use Rattle.t1_afm.specs.declared.bbox.BBox.{BBox}
-use Rattle.t1_cache.specs.declared.records.Named.{Named}
-use Rattle.t1_cache.specs.declared.records.Named.TheVariants as named
+use Rattle.t1_font.specs.declared.owned_key.OwnedKey.{OwnedKey}
+use Rattle.t1_font.specs.declared.owned_key.OwnedKey.TheVariants as named
 use Rattle.t1_cache.specs.declared.records.NewRun.{NewRun}
 use Rattle.t1_cache.specs.declared.records.Records.{Records}
 use Rattle.t1_cache.specs.declared.records.Rerun.{Rerun}
@@ -21,7 +21,7 @@ use Rattle.t1_cache.specs.Bodies.{record_bodies}
 use Rattle.t1_cache.specs.Renewed.{kept, rerun_of}
 use Rattle.t1_cache.specs.Recorded.{RecordedGlyph, kept_of}
 use Rattle.t1_cache.specs.Users.{is_name_among, users_at, users_of, UserSet}
-use Rattle.t1_cache.specs.EditKeys.{key_of}
+use Rattle.t1_font.specs.OwnedKeys.{key_of}
 use Rattle.t1_rerun.specs.declared.entry_change.EntryChange.{EntryChange}
 use Rattle.t1_rerun.specs.declared.settling.steps.RecordChange.{RecordChange}
 use Rattle.t1_rerun.specs.declared.settling.steps.RecordChange.TheVariants as steps
@@ -111,12 +111,12 @@ abbrev pub some_inserts : List RecordChange → List ℕ → Bool
 some_inserts steps g = list_any (λ step. inserts step g) steps
 
 -- word: by the records a glyph that is there was moved, or wasn't there
-abbrev pub is_last : Records → Bool → Named → Bool
+abbrev pub is_last : Records → Bool → OwnedKey → Bool
 is_last records moved (named.Subr n) = false
 is_last records moved (named.Glyph g) = moved || is_none (body_at (record_bodies records) (Glyph g))
 
 -- word: there is no new run of the glyph
-abbrev pub LacksRun : (List ℕ → Option (TracedRun × Option BBox)) → Named → Type 0
+abbrev pub LacksRun : (List ℕ → Option (TracedRun × Option BBox)) → OwnedKey → Type 0
 LacksRun run (named.Subr n) = ⊥
 LacksRun run (named.Glyph g) = run g ≡ None
 
@@ -139,7 +139,7 @@ IsStepOf run count records c (steps.InsertGlyph name r) =
     × ((is_last records c.moved c.named ≡ true) × (HasPlaces (count (Glyph name.items)) r.users × (run name.items ≡ Some (r.run, r.bbox)))))
 
 -- word: the change of an entry, from its parts
-abbrev pub entry_change : Named → Option (List Command) → Bool → EntryChange
+abbrev pub entry_change : OwnedKey → Option (List Command) → Bool → EntryChange
 entry_change named body moved = record { named = named; body = body; moved = moved }
 
 -- word: the last step is that of the first change, and so on

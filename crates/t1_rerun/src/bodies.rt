@@ -12,8 +12,9 @@ ghost use Rattle.t1_rerun.specs.Changing.{body_changed, edited_font, glyph_set, 
 use crate::entry_change::EntryChange;
 use indexmap::IndexMap;
 use std::alloc::{AllocError, Global};
-use t1_cache::{Named, Records};
+use t1_cache::Records;
 use t1_code::{Body, Command};
+use t1_font::OwnedKey;
 use t1_run::{Bodies, StoredBodies};
 
 /// The bodies of records, with those that changes set or take out. Each is asked for by one look-up
@@ -143,8 +144,8 @@ fn set_body<'a>(
         (body_changed (change.now ∷ []) (Glyph g))) }
 {
     match &change.named {
-        Named::Subr(number) => set_subr(subrs, *number, &change.body),
-        Named::Glyph(name) => set_glyph(glyphs, name.as_slice(), &change.body),
+        OwnedKey::Subr(number) => set_subr(subrs, *number, &change.body),
+        OwnedKey::Glyph(name) => set_glyph(glyphs, name.as_slice(), &change.body),
     }
 }
 

@@ -8,7 +8,7 @@ ghost use Rattle.t1_font.specs.SourceChecks.{source_check};
 ghost use Rattle.t1_cache.specs.Edited.{stale};
 ghost use Rattle.t1_cache.specs.Kept.{keep_traces};
 ghost use Rattle.t1_cache.specs.Recorded.{kept_of};
-ghost use Rattle.t1_cache.specs.EditKeys.{key_of};
+ghost use Rattle.t1_font.specs.OwnedKeys.{key_of};
 ghost use Rattle.t1_rerun.specs.Changing.{AreChangesOf, ArePreparedChanges, IsReadyFor};
 ghost use Rattle.t1_rerun.specs.Changing.{MayBePrepared};
 ghost use Rattle.t1_rerun.specs.Renewals.{IsLater, IsRenewal};
@@ -23,27 +23,18 @@ use crate::order::GlyphOrder;
 use crate::renewal::Renewal;
 use crate::settling::{Ready, make_ready, settle};
 use std::alloc::{AllocError, Global};
-use t1_cache::{Named, Records};
-use t1_frac::{Bytes, Refusal};
+use t1_cache::Records;
+use t1_font::OwnedKey;
+use t1_frac::Refusal;
 use t1_run::Meter;
 
-/// A copy of a Subr's number or of a glyph's name.
-fn copied(alloc: Global, named: &Named) -> Result<Named, AllocError>
-    ensures { IfOk result (λ copy. key_of copy ≡ key_of named.now) }
-{
-    match named {
-        Named::Subr(number) => Ok(Named::Subr(*number)),
-        Named::Glyph(name) => Ok(Named::Glyph(Bytes::copied(alloc, name.as_slice())?)),
-    }
-}
-
 /// The entries that changes name, in their order.
-fn named_in(alloc: Global, changes: &[EntryChange]) -> Result<Vec<Named>, AllocError>
+fn named_in(alloc: Global, changes: &[EntryChange]) -> Result<Vec<OwnedKey>, AllocError>
     ensures { IfOk result (λ named. map key_of named.items ≡ changed_keys changes.now) }
 {
     let mut named = Vec::new(alloc);
     for change in changes {
-        named.push(copied(alloc, &change.named)?)?;
+        named.push(change.named.copied(alloc)?)?;
     }
     Ok(named)
 }

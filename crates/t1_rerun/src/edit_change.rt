@@ -12,8 +12,7 @@ ghost use Rattle.t1_rerun.specs.EntryChanges.{put_number, removed_number, IsChan
 
 use crate::entry_change::EntryChange;
 use std::alloc::{AllocError, Global};
-use t1_cache::Named;
-use t1_font::{compiled_glyph, compiled_subr};
+use t1_font::{OwnedKey, compiled_glyph, compiled_subr};
 use t1_frac::{Bytes, Refusal};
 use t1_source::{Edit, body_words};
 
@@ -39,7 +38,7 @@ fn subr_put(alloc: Global, number: i64, body: &Bytes) -> Result<Option<EntryChan
     let words = body_words(alloc, body.as_slice())?;
     let body = compiled_subr(alloc, number, &words)?;
     Ok(Some(EntryChange {
-        named: Named::Subr(number),
+        named: OwnedKey::Subr(number),
         body: Some(body),
         moved: false,
     }))
@@ -53,7 +52,7 @@ fn glyph_put(alloc: Global, name: &Bytes, body: &Bytes) -> Result<Option<EntryCh
     let words = body_words(alloc, body.as_slice())?;
     let body = compiled_glyph(alloc, name.as_slice(), &words)?;
     Ok(Some(EntryChange {
-        named: Named::Glyph(Bytes::copied(alloc, name.as_slice())?),
+        named: OwnedKey::Glyph(Bytes::copied(alloc, name.as_slice())?),
         body: Some(body),
         moved: false,
     }))
@@ -65,7 +64,7 @@ fn subr_removed(number: i64) -> Option<EntryChange>
 {
     let number = subr_number(number)?;
     Some(EntryChange {
-        named: Named::Subr(number),
+        named: OwnedKey::Subr(number),
         body: None,
         moved: false,
     })
@@ -78,7 +77,7 @@ fn glyph_removed(alloc: Global, name: &Bytes) -> Result<EntryChange, AllocError>
         key_change change ≡ record { key = Glyph name.now; body = None; moved = false }) }
 {
     Ok(EntryChange {
-        named: Named::Glyph(Bytes::copied(alloc, name.as_slice())?),
+        named: OwnedKey::Glyph(Bytes::copied(alloc, name.as_slice())?),
         body: None,
         moved: false,
     })

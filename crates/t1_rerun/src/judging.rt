@@ -14,7 +14,7 @@ ghost use Rattle.t1_cache.specs.Kept.{keep_traces};
 ghost use Rattle.t1_cache.specs.Laws.{fault_check, AreDistinct};
 ghost use Rattle.t1_cache.specs.Tables.{AreTables};
 ghost use Rattle.t1_cache.specs.Users.{is_name_among};
-ghost use Rattle.t1_cache.specs.EditKeys.{key_of};
+ghost use Rattle.t1_font.specs.OwnedKeys.{key_of};
 ghost use Rattle.t1_rerun.specs.Newest.{judged_in, newest, newest_among, FirstIn};
 ghost use Rattle.t1_rerun.specs.Renewals.{IsLater, IsRenewal};
 ghost use Rattle.t1_rerun.specs.Right.{IsEdit};
@@ -25,8 +25,8 @@ use crate::renewal::{Renewal, renewal_of};
 use crate::stale::{stale_among, there_among};
 use indexmap::IndexSet;
 use std::alloc::Global;
-use t1_cache::{Named, Records, found};
-use t1_font::{GlyphMetrics, Runs, glyph_metrics_of, runs_of};
+use t1_cache::{Records, found};
+use t1_font::{GlyphMetrics, OwnedKey, Runs, glyph_metrics_of, runs_of};
 use t1_frac::Refusal;
 use t1_run::{Meter, StoredBodies};
 
@@ -143,7 +143,7 @@ fn rerun_found<B: StoredBodies, O: GlyphOrder>(
     records: &Records,
     bodies: &B,
     order: &O,
-    edits: &[Named],
+    edits: &[OwnedKey],
     found: &IndexSet<&[u8]>,
     meter: &mut Meter,
 ) -> Result<Renewal, Refusal>
@@ -188,7 +188,7 @@ pub fn rerun<B: StoredBodies, O: GlyphOrder>(
     records: &Records,
     bodies: &B,
     order: &O,
-    edits: &[Named],
+    edits: &[OwnedKey],
     meter: &mut Meter,
 ) -> Result<Renewal, Refusal>
     requires { keep_traces records.now ≡ true }

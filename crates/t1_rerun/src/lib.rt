@@ -10,7 +10,7 @@
 //! measured by their newest runs ([`rerun`]), over the bodies of the records under the changes
 //! ([`EditedBodies`]); [`make_ready`] makes all that the change of the records takes; and
 //! [`settle`] changes them, which takes no memory. There is no pass over the font: the order of the
-//! glyphs is asked for ([`GlyphOrder`], as of [`Prepared`]) only where one has a fault. The entry
+//! glyphs is asked for ([`GlyphOrder`] of the edited source) only where one has a fault. The entry
 //! that one edit names [`change_of_edit`] gives, and [`change_alone`] the list of it.
 //!
 //! All of it is for the crates above.
@@ -34,7 +34,6 @@ mod measured;
 mod newest;
 mod opening;
 mod order;
-mod prepared;
 mod recorded;
 mod renewal;
 mod reruns;
@@ -50,7 +49,6 @@ pub use measured::measured_records;
 pub use newest::Newest;
 pub use opening::opened_records;
 pub use order::GlyphOrder;
-pub use prepared::Prepared;
 pub use recorded::recorded_metrics;
 pub use renewal::Renewal;
 pub use settling::{Ready, make_ready, settle};

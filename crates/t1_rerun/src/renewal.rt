@@ -11,16 +11,16 @@ ghost use Rattle.t1_rerun.specs.Renewals.{rerun_names, HasRun, IsMeasuredRerun};
 
 use crate::reruns::reruns_of;
 use std::alloc::{AllocError, Global};
-use t1_cache::{Named, Records, Rerun, joins_of, leaves_of};
-use t1_font::{GlyphMetrics, Runs};
+use t1_cache::{Records, Rerun, joins_of, leaves_of};
+use t1_font::{GlyphMetrics, OwnedKey, Runs};
 
 /// What edits make new of the glyphs that they make stale: their runs and boxes, and which of them
 /// leave and join the users of Subrs and glyphs, each with its user.
 #[derive(Drop)]
 pub struct Renewal {
     pub reruns: Vec<Rerun>,
-    pub leaves: Vec<(Named, Vec<u8>)>,
-    pub joins: Vec<(Named, Vec<u8>)>,
+    pub leaves: Vec<(OwnedKey, Vec<u8>)>,
+    pub joins: Vec<(OwnedKey, Vec<u8>)>,
 }
 
 /// What is new of the glyphs that were found: the runs and boxes of those that were measured, and

@@ -18,7 +18,8 @@ use crate::renewal::Renewal;
 use preparing::{runs_by_name, steps_with_room, taken_out};
 use std::alloc::{AllocError, Global};
 use steps::{RecordChange, change_all};
-use t1_cache::{Named, Names, NewRuns, Records, make_room, move_users, renew_by_name};
+use t1_cache::{Names, NewRuns, Records, make_room, move_users, renew_by_name};
+use t1_font::OwnedKey;
 
 /// The changes of records, with all the memory that they take.
 #[derive(Drop)]
@@ -28,8 +29,8 @@ pub struct Ready {
     // The glyphs whose records leave their places.
     taken: Names,
     runs: NewRuns,
-    leaves: Vec<(Named, Vec<u8>)>,
-    joins: Vec<(Named, Vec<u8>)>,
+    leaves: Vec<(OwnedKey, Vec<u8>)>,
+    joins: Vec<(OwnedKey, Vec<u8>)>,
 }
 
 /// Makes room for so many more Subrs and so many more glyphs.

@@ -19,7 +19,7 @@ use Rattle.t1_font.proofs.Keys.{key-itself, key-same}
 use Rattle.t1_cache.specs.declared.records.Records.{Records}
 use Rattle.t1_cache.specs.Bodies.{record_bodies}
 use Rattle.t1_cache.specs.Edited.{IsEditedAt}
-use Rattle.t1_cache.specs.EditKeys.{key_of}
+use Rattle.t1_font.specs.OwnedKeys.{key_of}
 use Rattle.t1_rerun.specs.declared.entry_change.EntryChange.{EntryChange}
 use Rattle.t1_rerun.specs.Changing.{body_changed}
 use Rattle.t1_rerun.specs.EntryChanges.{edit_change, IsChanged, IsMadeByEdit, KeyChange}

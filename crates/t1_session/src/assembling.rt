@@ -7,7 +7,7 @@ ghost use Rattle.t1_session.specs.Files.{assembled, assembled_pfa};
 use crate::error::ServeError;
 use std::alloc::Global;
 use std::io::Write;
-use t1_code::{Counted, WHOLE_PARTS};
+use t1_code::{BlockSize, Counted, WHOLE_PARTS};
 use t1_font::{write_source_pfa, write_source_pfb};
 use t1_source::read_source;
 
@@ -36,6 +36,7 @@ pub fn assemble_blocks<W: Write>(
     requires short { size ≤ 2 ^ 31 - 1 }
     ensures { Delivers W.contents out.old out.new (assembled size source.now) result }
 {
+    let size = BlockSize::new(size);
     let source = read_source(alloc, source)?;
     Ok(write_source_pfb(alloc, &source, size, out)?)
 }

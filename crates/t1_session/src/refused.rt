@@ -21,7 +21,7 @@ use std::alloc::{AllocError, Global};
 use std::mem;
 use t1_commands::push_rule;
 use t1_frac::{Fault, Refusal};
-use t1_held::{Edits, Held, prepare_edits};
+use t1_held::{Held, prepare_edit};
 use t1_pairs::Pairs;
 use t1_refusal::{body_fault_text, refusal_text, run_fault_text};
 use t1_rerun::{change_alone, change_of_edit, edited_bodies};
@@ -68,14 +68,8 @@ fn judged_edit(
     ensures kept { map kept_of held.new.records.glyphs.entries
         ≡ map kept_of held.old.records.glyphs.entries }
 {
-    let edits = Edits::One {
-        source,
-        pairs,
-        edit,
-        change,
-    };
     let mut meter = Meter::new();
-    prepare_edits(alloc, held, edits, &mut meter).err()
+    prepare_edit(alloc, held, source, pairs, edit, change, &mut meter).err()
 }
 
 /// The fault that a source is refused for.

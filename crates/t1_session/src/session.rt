@@ -78,7 +78,7 @@ ghost use Rattle.t1_session.specs.FromScratch.{metrics_line_from_scratch, outlin
 ghost use Rattle.t1_session.specs.FromScratch.{pfa_from_scratch, pfb_from_scratch};
 ghost use Rattle.t1_session.specs.FromScratch.{subr_from_scratch, uses_from_scratch};
 ghost use Rattle.t1_commands.specs.Blocks.{block_size};
-ghost use Rattle.t1_commands.specs.declared.answer.Answer.TheVariants.{Data};
+ghost use Rattle.t1_commands.specs.declared.answer.Answer.TheVariants as answers;
 ghost use Rattle.t1_commands.specs.AnswerTexts.{answer_text};
 ghost use Rattle.t1_session.specs.Machine.{blocks_answer, file_answer, found_answer, opened};
 ghost use Rattle.t1_session.specs.Machine.{judged, printed, refused_batch, shown_answer};
@@ -101,12 +101,13 @@ use std::alloc::AllocError;
 use std::io::Write;
 use std::mem;
 use t1_afm::{Metrics, write_afm};
-use t1_code::{Counted, OutError, Pfa, Pfb, WHOLE_PARTS};
-use t1_commands::{Answer, PfaData, PfbData, Print, Show, block_size, put_answer};
+use t1_code::{BlockSize, Counted, OutError, Pfa, Pfb, WHOLE_PARTS};
+use t1_commands::{Answer, Data, Print, Show, block_size, put_answer};
 use t1_font::{MeasuredGlyphs, afm_text, usage_text};
 use t1_frac::{Bytes, Refusal};
 use t1_held::{
-    EditedEntry, Edits, held_metrics, held_of, hint_of, prepare_edits, settle, write_held_file,
+    EditedEntry, held_metrics, held_of, hint_of, prepare_batch, prepare_edit, settle,
+    write_held_file,
 };
 use t1_outline::glyph_outline;
 use t1_outline::laws::a_source_shows_its_outlines;
@@ -374,13 +375,15 @@ impl<'a> Session<'a> {
             self.new }
     {
         text_of_source_read(&self.source);
-        let edits = Edits::One {
-            source: &self.source,
-            pairs: &self.pairs,
+        let prepared = prepare_edit(
+            self.alloc,
+            &mut self.held,
+            &self.source,
+            &self.pairs,
             edit,
-            change: &change,
-        };
-        let prepared = prepare_edits(self.alloc, &mut self.held, edits, &mut self.meter);
+            &change,
+            &mut self.meter,
+        );
         let ready = match prepared {
             Ok(ready) => ready,
             Err(refusal) => {
@@ -412,12 +415,14 @@ impl<'a> Session<'a> {
             (record { keys = keys (map entry_edit entries.items); source = source.entry })) self.old
             result.0 self.new }
     {
-        let edits = Edits::Batch {
-            source: &self.source,
-            made: &source,
+        let prepared = prepare_batch(
+            self.alloc,
+            &mut self.held,
+            &self.source,
+            &source,
             entries,
-        };
-        let prepared = prepare_edits(self.alloc, &mut self.held, edits, &mut self.meter);
+            &mut self.meter,
+        );
         let ready = match prepared {
             Ok(ready) => ready,
             Err(refusal) => {
@@ -482,8 +487,8 @@ impl<'a> Session<'a> {
         ensures no_fault { AnswersNoFault result }
     {
         self.reads_back();
-        let form = Pfb::in_blocks(WHOLE_PARTS);
-        write_held_file(self.alloc, &self.held, &self.source, &form, out)
+        let size = BlockSize::new(WHOLE_PARTS);
+        write_held_file(self.alloc, &self.held, &self.source, &Pfb { size }, out)
     }
 
     /// Writes the PFB file in segments of so many bytes, the last of a part with the rest: that of
@@ -501,8 +506,8 @@ impl<'a> Session<'a> {
         ensures no_fault { AnswersNoFault result }
     {
         self.reads_back();
-        let form = Pfb::in_blocks(size);
-        write_held_file(self.alloc, &self.held, &self.source, &form, out)
+        let size = BlockSize::new(size);
+        write_held_file(self.alloc, &self.held, &self.source, &Pfb { size }, out)
     }
 
     /// Writes the PFA file: that of the printed source from scratch.
@@ -637,14 +642,12 @@ impl<'a> Session<'a> {
     }
 
     /// Writes the PFB file as the data of an answer. No file is made in memory.
-    fn put_pfb<W: Write>(&self, size: usize, out: &mut Counted<W>) -> Result<(), OutError>
-        requires some { 1 ≤ size }
-        requires short { size ≤ 2 ^ 31 - 1 }
+    fn put_pfb<W: Write>(&self, size: BlockSize, out: &mut Counted<W>) -> Result<(), OutError>
         ensures { Prints W.contents out.old out.new
             (Ok (answer_text (file_answer (blocks_from_scratch size self.now.state)))) result }
     {
         self.reads_back();
-        let form = PfbData::in_blocks(size);
+        let form = Data { form: Pfb { size } };
         write_held_file(self.alloc, &self.held, &self.source, &form, out)
     }
 
@@ -655,7 +658,7 @@ impl<'a> Session<'a> {
             (Ok (answer_text (printed self.now.state prints.Pfb))) result }
     {
         self.reads_back();
-        self.put_pfb(WHOLE_PARTS, out)
+        self.put_pfb(BlockSize::new(WHOLE_PARTS), out)
     }
 
     /// Writes what a print in segments of so many bytes is answered.
@@ -675,12 +678,14 @@ impl<'a> Session<'a> {
             (Ok (answer_text (printed self.now.state prints.Pfa))) result }
     {
         self.reads_back();
-        write_held_file(self.alloc, &self.held, &self.source, &PfaData, out)
+        let form = Data { form: Pfa };
+        write_held_file(self.alloc, &self.held, &self.source, &form, out)
     }
 
     /// The AFM file.
     fn metrics_text(&self) -> Result<Vec<u8>, AllocError>
-        ensures { IfOk result (λ text. printed self.now.state prints.Afm ≡ Data text.items) }
+        ensures { IfOk result
+            (λ text. printed self.now.state prints.Afm ≡ answers.Data text.items) }
     {
         self.reads_back();
         let metrics = self.metrics()?;
@@ -689,7 +694,8 @@ impl<'a> Session<'a> {
 
     /// The usage table.
     fn uses_text(&self) -> Result<Vec<u8>, AllocError>
-        ensures { IfOk result (λ text. printed self.now.state prints.Uses ≡ Data text.items) }
+        ensures { IfOk result
+            (λ text. printed self.now.state prints.Uses ≡ answers.Data text.items) }
     {
         self.reads_back();
         let glyphs = self.glyphs()?;
@@ -750,7 +756,8 @@ fn put_found<W: Write>(found: Option<Vec<u8>>, out: &mut Counted<W>) -> Result<(
 
 /// Writes a text as the data of an answer.
 fn put_data<W: Write>(text: Vec<u8>, out: &mut Counted<W>) -> Result<(), OutError>
-    ensures { Prints W.contents out.old out.new (Ok (answer_text (Data text.items))) result }
+    ensures { Prints W.contents out.old out.new (Ok (answer_text (answers.Data text.items)))
+        result }
 {
     put_answer(out, &Answer::Data(Bytes::new(text)))?;
     Ok(())

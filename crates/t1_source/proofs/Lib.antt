@@ -5,6 +5,7 @@ pub mod CountedLaws
 pub mod EditedCountLaws
 pub mod EditedItemsLaws
 pub mod EditedLeadLaws
+pub mod EditedSourceLaws
 pub mod EditingRows
 pub mod EntryFoundLaws
 pub mod HintLaws
@@ -12,7 +13,6 @@ pub mod ItemPlaceLaws
 pub mod ItemsAgainLaws
 pub mod LeadEditLaws
 pub mod LeadLineLaws
-pub mod MadeSourceLaws
 pub mod OrderLaws
 pub mod PrintedLaws
 pub mod PrintingRows

@@ -3,6 +3,7 @@ use Rattle.std.specs.Prelude.{◌≡◌, ◌<◌, ◌≤◌, Bool, true, false, 
 use Rattle.std.specs.List.{insert, remove, slice_set, slice_index_or}
 use Rattle.t1_parts.specs.declared.item.Item.{Item}
 use Rattle.t1_parts.specs.declared.item.Item.TheVariants.{Plain, Subr, Glyph}
+use Rattle.t1_parts.specs.Items.{is_entry}
 use Rattle.t1_parts.specs.Stretches.{StandsAloneAt}
 use Rattle.t1_parts.specs.SourceParts.{SourceParts}
 use Rattle.t1_source.specs.declared.editing.change.Change.{Change}
@@ -21,6 +22,20 @@ changed (PutClear lines) s k = (with_clear s lines.items, k)
 changed (PutPair at pair) s k = (s, slice_set k at pair)
 changed (InsertPair at pair) s k = (s, insert k at pair)
 changed (RemovePair at) s k = (s, remove k at)
+
+-- word, edits: the source after a change, whatever the pairs
+abbrev pub made_after : Change → SourceParts → SourceParts
+made_after change s = (changed change s []).0
+
+-- word, edits: whether a change leaves all items but Subrs and glyphs as they are
+abbrev pub is_entry_changed : Change → SourceParts → Bool
+is_entry_changed (PutItem at item) s = is_entry item
+is_entry_changed (InsertItem at item) s = is_entry item
+is_entry_changed (RemoveItem at) s = is_entry (slice_index_or s.items at (Plain []))
+is_entry_changed (PutClear lines) s = true
+is_entry_changed (PutPair at pair) s = true
+is_entry_changed (InsertPair at pair) s = true
+is_entry_changed (RemovePair at) s = true
 
 -- word, edits: both are plain lines, the Subr of one number, or the glyph of one name
 abbrev pub IsInPlaceOf : Item → Item → Type 0
@@ -46,6 +61,12 @@ pub record Suits (change : Change) (s : SourceParts) (k : List Pair) : Type 0 wh
   pub fits : Fits change s k
   pub source : IsWellFormed (changed change s k).0
   pub pairs : are_pairs (changed change s k).1 ≡ true
+
+-- word, edits: the change can be made of the source, beside some pairs
+pub record IsFor (change : Change) (s : SourceParts) : Type 0 where
+  pub pairs : List Pair
+  pub serves : Suits change s pairs
+  pub well : IsWellFormed s
 
 -- word, edits: whether the change takes room: where an item or a pair is put in
 abbrev pub takes_room : Change → Bool

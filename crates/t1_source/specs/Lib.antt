@@ -2,6 +2,7 @@ pub mod Changes
 pub mod Codes
 pub mod EditOutcomes
 pub mod EditedItems
+pub mod EditedSource
 pub mod Editing
 pub mod Hints
 pub mod Leads

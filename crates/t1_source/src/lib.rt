@@ -10,8 +10,8 @@
 //! For users: [`read_source`]; a [`Source`], its text and its parts, with [`Item`];
 //! [`Source::edited`], with [`Edit`], [`Rule`] and [`Cause`]. For the crates above:
 //! [`Source::prepared`], [`Source::prepared_near`] with [`Hint`], [`Source::commit`] and
-//! [`Change`], [`EditedItems`], [`Source::names_by_code`], and [`body_words`]. The pairs that an
-//! edit takes are those of `t1_pairs`.
+//! [`Change`], [`EditedSource`] with [`EditedItems`], [`Source::names_by_code`], and
+//! [`body_words`]. The pairs that an edit takes are those of `t1_pairs`.
 //!
 //! What is proved, beside what the comment at each call says:
 //!
@@ -28,6 +28,8 @@
 //!   then nothing has changed. `Source::edited` is both on copies.
 //! - `EditedItems`: the items after a change, before counts are raised (`items_after`), while they
 //!   stand in the source that is edited; their lenIV, their operator, and what they ask of counts.
+//! - `EditedSource`: of a source and a change that was prepared for it, the parts are those of the
+//!   source that the change makes (`made_of`), without a change those of the source.
 //! - `laws`: every source that was read is well formed (`IsWellFormed`), every edit keeps it so,
 //!   and it reads back from its text if its counts have at most nine digits
 //!   (`printed_source_read`). No Subr stands after a glyph (`subrs_stand_first`). A set lenIV is
@@ -40,6 +42,6 @@ pub mod laws;
 mod source;
 
 pub use edit::{Cause, Edit, Rule};
-pub use editing::{Change, EditedItems, Hint, body_words};
+pub use editing::{Change, EditedItems, EditedSource, Hint, body_words};
 pub use source::{Source, read_source};
 pub use t1_parts::Item;

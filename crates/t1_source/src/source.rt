@@ -3,12 +3,12 @@
 use crate::codes::{array_code, array_names, standard_code, standard_names};
 use std::alloc::{AllocError, Global};
 use std::marker::Model;
-use t1_frac::{Bytes, Code, Fault, Refusal};
+use t1_frac::{Bytes, Refusal};
 use t1_parts::{
-    Gathered, Item, Items, PartBytes, check_clear, check_lead, has_standard, header_of,
-    operator_of, parts_of, private_items, push_items, push_lines, raise, tail_of,
+    Item, Items, ReadParts, has_standard, header_of, operator_of, push_items, push_lines, raise,
+    read_parts,
 };
-use t1_text::{copied_bytes, copied_lines, same};
+use t1_text::{copied_bytes, same};
 
 /// The readable source of a font: its clear lines, the items of its private part and its tail.
 #[derive(Drop)]
@@ -40,7 +40,7 @@ ghost use Rattle.std.specs.Prelude.{slice_index_or, IfOk, IsOk, OnOk, OnErr, opt
 ghost use Rattle.std.specs.List.{insert, remove};
 ghost use Rattle.t1_frac.specs.Outcome.{Gives};
 ghost use Rattle.t1_text.specs.Lines.{lines};
-ghost use Rattle.t1_parts.specs.Reading.{whole_check, reads, standard};
+ghost use Rattle.t1_parts.specs.Reading.{reads, standard};
 ghost use Rattle.t1_source.specs.WellFormed.{IsWellFormed};
 ghost use Rattle.t1_parts.specs.LenIV.{lead};
 ghost use Rattle.t1_parts.specs.Operator.{operator};
@@ -52,45 +52,14 @@ ghost use Rattle.t1_source.specs.Changes.{IsInPlaceOf};
 ghost use Rattle.t1_source.specs.Editing.{with_items, with_clear};
 ghost use Rattle.t1_parts.specs.declared.item.Item.TheVariants as variants;
 
-/// Judges the items of a private part as a whole.
-#[tactic(auto, unfolding(t1_parts::specs::Reading::whole_check))]
-fn check_whole(items: &Gathered) -> Result<(), Fault>
-    ensures { result ≡ whole_check items.now }
-{
-    if !items.has_glyphs_line() {
-        return Err(Fault::from(Code::F3));
-    }
-    let _lead = check_lead(items)?;
-    Ok(())
-}
-
-/// The lines of the clear part, of which the eexec line is the last.
-fn clear_lines(alloc: Global, parts: &PartBytes) -> Result<Vec<Bytes>, AllocError>
-    ensures { IfOk result
-        (λ clear. clear.items ≡ lines parts.now.clear.now ++ parts.now.eexec.now ∷ []) }
-{
-    let mut clear = copied_lines(alloc, parts.clear)?;
-    clear.push(Bytes::copied(alloc, parts.eexec)?)?;
-    Ok(clear)
-}
-
 /// The source of some bytes. The first fault refuses it: F1 where no line ends the clear part, F2
 /// where none ends the private part, then F5 and F6 of the clear lines, F4 and F7 to F10 of the
 /// private lines, each from the top and with its line, then F3 and F11. No table of the lines is
 /// made.
-#[tactic(auto, unfolding(t1_parts::specs::Reading::reads, t1_parts::specs::Reading::reads_lines))]
 pub fn read_source(alloc: Global, bytes: &[u8]) -> Result<Source<'_>, Refusal>
     ensures { Gives (λ source. source) result (reads bytes.now) }
 {
-    let parts = parts_of(bytes)?;
-    let clear = clear_lines(alloc, &parts)?;
-    check_clear(&clear)?;
-    let number = clear.as_slice().len() as u64 + 1;
-    let items = private_items(alloc, number, parts.private, parts.closefile)?;
-    check_whole(&items)?;
-    let mut items = items.into_items()?;
-    raise(&mut items);
-    let tail = tail_of(alloc, parts.tail)?;
+    let ReadParts { clear, items, tail } = read_parts(alloc, bytes)?;
     Ok(Source {
         alloc,
         clear,

@@ -3,8 +3,8 @@ use std::alloc::Global;
 use std::io::{self, ErrorKind, Write};
 use std::test::Fail;
 use t1_code::{
-    Counted, MAX_PUT, OutError, Parts, Piece, WHOLE_PARTS, assemble, encrypt, pfb_len, write_pfa,
-    write_pfb,
+    BlockSize, Counted, MAX_PUT, OutError, Parts, Piece, WHOLE_PARTS, assemble, encrypt, pfb_len,
+    write_pfa, write_pfb,
 };
 use t1_frac::{Code, Words};
 
@@ -198,7 +198,7 @@ fn knows_how_long_empty_parts_are(rt: HostRuntime) -> Result<(), Fail> {
         pieces: &[],
         trailer: b"",
     };
-    assert!(rt; matches!(pfb_len(&parts, 40), Ok(24)));
+    assert!(rt; matches!(pfb_len(&parts, BlockSize::new(40)), Ok(24)));
     Ok(())
 }
 

@@ -102,7 +102,7 @@ fn subr(alloc: Global, number: u16) -> Result<Item<'static>, Fail> {
 /// Whether there is such an item and it is the Subr of this number.
 fn is_subr(item: Option<ItemRef>, number: u16) -> bool {
     match item {
-        Some(ItemRef::Item(Item::Subr(other, _, _))) => number == *other,
+        Some(ItemRef::Subr(other, _, _)) => number == other,
         _ => false,
     }
 }
@@ -112,7 +112,7 @@ fn gives_the_first_item(rt: HostRuntime) -> Result<(), Fail> {
     let source = many_lines(rt.alloc())?;
     let items = source.items();
     assert!(rt; 0 < items.len());
-    assert!(rt; items.item(0).as_item().is_none());
+    assert!(rt; items.item(0).plain_line().is_some());
     Ok(())
 }
 

@@ -22,7 +22,10 @@ fn is_bracket(byte: u8) -> bool
 pub fn is_regular(byte: u8) -> bool
     ensures { result ≡ is_regular byte }
 {
-    !(is_blank(byte) || is_bracket(byte) || byte == b'/' || byte == b'%')
+    match byte {
+        b'A'..=b'Z' | b'a'..=b'z' | b'0'..=b'9' => true,
+        _ => !(is_blank(byte) || is_bracket(byte) || byte == b'/' || byte == b'%'),
+    }
 }
 
 /// How many bytes at the front go on with a token.

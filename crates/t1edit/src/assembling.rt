@@ -1,21 +1,18 @@
 //! The form of an assembled file.
-use std::marker::Model;
+ghost use Rattle.std.specs.Prelude.{option_map};
+ghost use Rattle.t1_session.specs.Delivery.{Delivers};
+ghost use Rattle.t1edit.specs.Assembling.{file_in_form};
+ghost use Rattle.t1edit.specs.Answering.{FormIs};
+ghost use Rattle.t1edit.specs.Sources.{OnSource, source_in as source_in_file};
 
-/// How many bytes a segment of a PFB file has, the last of a part the rest.
-#[derive(Drop)]
-pub struct BlockSize {
-    size: usize,
-}
-
-impl Model for BlockSize {
-    ghost use Rattle.std.specs.Prelude.{◌≤◌, ◌-◌, ◌^◌, ℕ};
-
-    ghost Value = { ℕ };
-
-    ghost view = { λ block. block.size };
-
-    ghost invariant = { λ block. (1 ≤ block.size) × (block.size ≤ 2 ^ 31 - 1) };
-}
+use crate::file_error::{FileError, served};
+use crate::kind::{Kind, source_in};
+use crate::status::{Misuse, Stop};
+use std::alloc::Global;
+use std::io::Write;
+use t1_code::{BlockSize, Counted};
+use t1_commands::block_size_of_word;
+use t1_session::{ServeError, assemble_blocks, assemble_pfa, assemble_source};
 
 /// The form of an assembled file.
 #[derive(Drop)]
@@ -28,21 +25,6 @@ pub enum OutputForm {
     Pfa,
 }
 
-ghost use Rattle.std.specs.Prelude.{option_map};
-ghost use Rattle.t1_session.specs.Delivery.{Delivers};
-ghost use Rattle.t1edit.specs.Assembling.{file_in_form};
-ghost use Rattle.t1edit.specs.Answering.{FormIs};
-ghost use Rattle.t1edit.specs.Sources.{OnSource, source_in as source_in_file};
-
-use crate::file_error::{FileError, served};
-use crate::kind::{Kind, source_in};
-use crate::status::{Misuse, Stop};
-use std::alloc::Global;
-use std::io::Write;
-use t1_code::Counted;
-use t1_commands::block_size_of_word;
-use t1_session::{ServeError, assemble_blocks, assemble_pfa, assemble_source};
-
 /// The form that the options ask for, a block length being 1 to 2147483647.
 pub fn form_of(pfa: bool, block: Option<&str>) -> Result<OutputForm, Stop>
     ensures { FormIs pfa (option_map (λ word. word.now) block.entry) result }
@@ -54,7 +36,7 @@ pub fn form_of(pfa: bool, block: Option<&str>) -> Result<OutputForm, Stop>
         return Ok(OutputForm::Pfb);
     };
     match block_size_of_word(word.as_bytes()) {
-        Some(size) => Ok(OutputForm::Blocks(BlockSize { size })),
+        Some(size) => Ok(OutputForm::Blocks(size)),
         None => Err(Stop::Misused(Misuse::BlockLength)),
     }
 }
@@ -70,7 +52,7 @@ pub fn assemble_as<W: Write>(
 {
     match form {
         OutputForm::Pfb => assemble_source(alloc, source, out),
-        OutputForm::Blocks(block) => assemble_blocks(alloc, source, block.size, out),
+        OutputForm::Blocks(size) => assemble_blocks(alloc, source, size.get(), out),
         OutputForm::Pfa => assemble_pfa(alloc, source, out),
     }
 }

@@ -11,15 +11,15 @@ ghost use Rattle.t1_font.specs.Lengths.{IsPrivateLen};
 use crate::entries::Charstrings;
 use crate::lengths::line_len;
 use t1_parts::{ItemRef, Items};
-use t1_source::{Item, Source};
+use t1_source::Source;
 
 /// Whether the charstring of an item's entry is among these.
-fn has_line(charstrings: &Charstrings, item: &Item) -> bool
-    ensures { result ≡ has_line charstrings.now item.now }
+fn has_line(charstrings: &Charstrings, item: &ItemRef) -> bool
+    ensures { result ≡ has_line charstrings.now (item_of item.now) }
 {
     match item {
-        Item::Subr(number, _, _) => charstrings.subrs.contains_key(number),
-        Item::Glyph(name, _, _) => charstrings.glyphs.contains_key(name.as_slice()),
+        ItemRef::Subr(number, _, _) => charstrings.subrs.contains_key(number),
+        ItemRef::Glyph(name, _, _) => charstrings.glyphs.contains_key(*name),
         _ => false,
     }
 }
@@ -27,24 +27,6 @@ fn has_line(charstrings: &Charstrings, item: &Item) -> bool
 /// How long the line of an item is, up to 2^64 - 1: that of its fresh charstring, or else that of
 /// the old one.
 pub(crate) fn batch_line_len(
-    charstrings: &Charstrings,
-    fresh: &Charstrings,
-    operator: &[u8],
-    item: &Item,
-) -> usize
-    ensures { result
-        ≡ min (length (item_line_by (fresh_over fresh.now charstrings.now) operator.now item.now))
-        (2 ^ 64 - 1) }
-{
-    if has_line(fresh, item) {
-        return line_len(fresh, operator, item);
-    }
-    line_len(charstrings, operator, item)
-}
-
-/// How long the line of an item is, where it stands, up to 2^64 - 1: that of its fresh charstring,
-/// or else that of the old one.
-fn batch_line_ref_len(
     charstrings: &Charstrings,
     fresh: &Charstrings,
     operator: &[u8],
@@ -56,10 +38,10 @@ fn batch_line_ref_len(
         (item_line_by (fresh_over fresh.now charstrings.now) operator.now
         (item_of item.now))) (2 ^ 64 - 1) }
 {
-    match item {
-        ItemRef::Line(line) => line.len().saturating_add(1),
-        ItemRef::Item(item) => batch_line_len(charstrings, fresh, operator, item),
+    if has_line(fresh, item) {
+        return line_len(fresh, operator, item);
     }
+    line_len(charstrings, operator, item)
 }
 
 /// How long the lines of the items are, up to 2^64 - 1.
@@ -75,7 +57,7 @@ fn batch_items_len(
 {
     let mut total: usize = 0;
     for item in items.iter() {
-        total = total.saturating_add(batch_line_ref_len(charstrings, fresh, operator, &item));
+        total = total.saturating_add(batch_line_len(charstrings, fresh, operator, &item));
     }
     total
 }

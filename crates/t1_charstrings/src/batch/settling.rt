@@ -3,34 +3,35 @@ ghost use Rattle.std.specs.Prelude.{◌≡◌, ◌≤◌, ℕ, List, None, if◌
 ghost use Rattle.std.specs.Option.{option_or};
 ghost use Rattle.indexmap.specs.IndexMap.{spare};
 ghost use Rattle.t1_run.specs.Run.{Key};
-ghost use Rattle.t1_charstrings.specs.Batch.{gone_key, is_gone, fresh_over};
+ghost use Rattle.t1_charstrings.specs.Batch.{is_gone, fresh_over};
+ghost use Rattle.t1_font.specs.OwnedKeys.{key_of};
 ghost use Rattle.t1_charstrings.specs.Changed.{Sets};
 ghost use Rattle.t1_charstrings.specs.Entries.{glyph_charstring, subr_charstring};
 ghost use Rattle.t1_charstrings.specs.Kept.{charstring_at};
 
 use crate::changed::{insert_glyph, insert_subr};
-use crate::edited::Gone;
 use crate::entries::{Charstrings, Entry};
 use indexmap::IndexMap;
+use t1_font::OwnedKey;
 
 /// Takes the charstring of an entry out.
-fn take_one_out(charstrings: &mut Charstrings, gone: &Gone)
-    ensures sets { Sets (gone_key gone.now) None charstrings.old charstrings.new }
+fn take_one_out(charstrings: &mut Charstrings, gone: &OwnedKey)
+    ensures sets { Sets (key_of gone.now) None charstrings.old charstrings.new }
     ensures room { (spare charstrings.old.subrs ≤ spare charstrings.new.subrs)
         × (spare charstrings.old.glyphs ≤ spare charstrings.new.glyphs) }
 {
     match gone {
-        Gone::Subr(number) => {
+        OwnedKey::Subr(number) => {
             charstrings.subrs.swap_remove(number);
         }
-        Gone::Glyph(name) => {
+        OwnedKey::Glyph(name) => {
             charstrings.glyphs.swap_remove(name.as_slice());
         }
     }
 }
 
 /// Takes the charstrings of entries out. It takes no memory and can't fail.
-pub(crate) fn take_out(charstrings: &mut Charstrings, gone: &[Gone])
+pub(crate) fn take_out(charstrings: &mut Charstrings, gone: &[OwnedKey])
     ensures kept { (k : Key)
         → charstring_at charstrings.new k
         ≡ (if is_gone gone.now k then None else charstring_at charstrings.old k) }

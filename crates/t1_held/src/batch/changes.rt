@@ -8,8 +8,8 @@ ghost use Rattle.t1_source.specs.WellFormed.{IsWellFormed};
 ghost use Rattle.t1_run.specs.Run.{Key, Subr, Glyph};
 ghost use Rattle.t1_font.specs.Assembly.{file_check};
 ghost use Rattle.t1_font.specs.Bodies.{bodies_check};
-ghost use Rattle.t1_cache.specs.declared.records.Named.TheVariants as named;
-ghost use Rattle.t1_cache.specs.EditKeys.{key_of};
+ghost use Rattle.t1_font.specs.declared.owned_key.OwnedKey.TheVariants as named;
+ghost use Rattle.t1_font.specs.OwnedKeys.{key_of};
 ghost use Rattle.t1_held.specs.Batch.{entry_edit, keys};
 ghost use Rattle.t1_held.specs.Drafting.{AreBatchChanges, IsEditedBy};
 ghost use Rattle.t1_held.specs.Passing.{all_removed, after_item, after_items, changes_by, item_put};
@@ -18,8 +18,7 @@ ghost use Rattle.t1_held.specs.Passing.{items_put, mark_at, put_of, removed_at, 
 use crate::batch::entries::EditedEntry;
 use crate::batch::marks::Marks;
 use std::alloc::{AllocError, Global};
-use t1_cache::Named;
-use t1_font::{compiled_glyph, compiled_subr};
+use t1_font::{OwnedKey, compiled_glyph, compiled_subr};
 use t1_frac::{Bytes, Refusal, Words};
 use t1_parts::Items;
 use t1_rerun::EntryChange;
@@ -44,7 +43,7 @@ fn subr_change(
     };
     let body = compiled_subr(alloc, number, words)?;
     Ok(Some(EntryChange {
-        named: Named::Subr(number),
+        named: OwnedKey::Subr(number),
         body: Some(body),
         moved,
     }))
@@ -69,7 +68,7 @@ fn glyph_change(
     };
     let body = compiled_glyph(alloc, name, words)?;
     Ok(Some(EntryChange {
-        named: Named::Glyph(Bytes::copied(alloc, name)?),
+        named: OwnedKey::Glyph(Bytes::copied(alloc, name)?),
         body: Some(body),
         moved,
     }))
@@ -126,7 +125,7 @@ fn changes_of_items(
 }
 
 /// An entry that was removed, where it is still marked; its mark is taken out.
-fn removed_change(marks: &mut Marks, named: Named) -> Option<EntryChange>
+fn removed_change(marks: &mut Marks, named: OwnedKey) -> Option<EntryChange>
     ensures change { result ≡ removed_at (mark_at marks.old (key_of named)) named }
     ensures others { (k : Key)
         → mark_at marks.new k ≡ without_key (key_of named) (mark_at marks.old) k }

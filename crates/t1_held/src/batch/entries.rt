@@ -2,42 +2,42 @@
 ghost use Rattle.std.specs.Prelude.{◌≡◌, IfOk};
 ghost use Rattle.std.specs.Option.{option_map};
 ghost use Rattle.t1_run.specs.Run.{Glyph};
-ghost use Rattle.t1_cache.specs.EditKeys.{key_of};
+ghost use Rattle.t1_font.specs.OwnedKeys.{key_of};
 ghost use Rattle.t1_rerun.specs.Renewing.{entry_key, number_key};
 ghost use Rattle.t1_held.specs.Batch.{adds, entry_edit};
 
 use std::alloc::{AllocError, Global};
-use t1_cache::Named;
+use t1_font::OwnedKey;
 use t1_frac::Bytes;
 use t1_source::Edit;
 
 /// An entry that an edit of a batch names, and whether the edit added it.
 #[derive(Debug, Drop)]
 pub struct EditedEntry {
-    pub named: Named,
+    pub named: OwnedKey,
     pub added: bool,
 }
 
 /// The Subr of this number, where the number has 16 bits.
-fn subr_named(number: i64) -> Option<Named>
+fn subr_named(number: i64) -> Option<OwnedKey>
     ensures { option_map key_of result ≡ number_key number }
 {
     if 0 <= number && number <= 65_535 {
-        Some(Named::Subr(number as u16))
+        Some(OwnedKey::Subr(number as u16))
     } else {
         None
     }
 }
 
 /// The glyph of this name.
-fn glyph_named(alloc: Global, name: &Bytes) -> Result<Named, AllocError>
+fn glyph_named(alloc: Global, name: &Bytes) -> Result<OwnedKey, AllocError>
     ensures { IfOk result (λ entry. key_of entry ≡ Glyph name.now) }
 {
-    Ok(Named::Glyph(Bytes::copied(alloc, name.as_slice())?))
+    Ok(OwnedKey::Glyph(Bytes::copied(alloc, name.as_slice())?))
 }
 
 /// The Subr or the glyph that an edit names, where it names one.
-fn named_entry(alloc: Global, edit: &Edit) -> Result<Option<Named>, AllocError>
+fn named_entry(alloc: Global, edit: &Edit) -> Result<Option<OwnedKey>, AllocError>
     ensures { IfOk result (λ entry. option_map key_of entry ≡ entry_key edit.now) }
 {
     match edit {

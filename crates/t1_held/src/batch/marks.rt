@@ -2,14 +2,14 @@
 ghost use Rattle.std.specs.Prelude.{◌≡◌, ℕ, List, None, Some, IfOk, OnOk, nat_eq, if◌then◌else◌};
 ghost use Rattle.std.specs.Str.{bytes_eq};
 ghost use Rattle.t1_run.specs.Run.{Key, Subr, Glyph};
-ghost use Rattle.t1_cache.specs.EditKeys.{key_of};
+ghost use Rattle.t1_font.specs.OwnedKeys.{key_of};
 ghost use Rattle.t1_held.specs.Passing.{all_marked, glyph_mark, mark_at, marked, none_sought};
 ghost use Rattle.t1_held.specs.Passing.{subr_mark, with_mark, without_key};
 
 use crate::batch::entries::EditedEntry;
 use indexmap::IndexMap;
 use std::alloc::{AllocError, Global};
-use t1_cache::Named;
+use t1_font::OwnedKey;
 
 /// The Subrs and the glyphs that edits name, each with whether some edit added it.
 #[derive(Drop)]
@@ -85,8 +85,13 @@ impl Marks {
             ≡ with_mark (key_of entry.now.named) entry.now.added (mark_at self.old) k) }
     {
         match &entry.named {
-            Named::Subr(number) => mark_subr(&mut self.subrs, *number, entry.added),
-            Named::Glyph(name) => mark_glyph(alloc, &mut self.glyphs, name.as_slice(), entry.added),
+            OwnedKey::Subr(number) => mark_subr(&mut self.subrs, *number, entry.added),
+            OwnedKey::Glyph(name) => mark_glyph(
+                alloc,
+                &mut self.glyphs,
+                name.as_slice(),
+                entry.added,
+            ),
         }
     }
 
@@ -124,14 +129,14 @@ impl Marks {
     }
 
     /// Takes out the mark of an entry. It takes no memory.
-    pub fn take(&mut self, named: &Named) -> Option<bool>
+    pub fn take(&mut self, named: &OwnedKey) -> Option<bool>
         ensures taken { result ≡ mark_at self.old (key_of named.now) }
         ensures others { (k : Key)
             → mark_at self.new k ≡ without_key (key_of named.now) (mark_at self.old) k }
     {
         match named {
-            Named::Subr(number) => self.take_subr(*number),
-            Named::Glyph(name) => self.take_glyph(name.as_slice()),
+            OwnedKey::Subr(number) => self.take_subr(*number),
+            OwnedKey::Glyph(name) => self.take_glyph(name.as_slice()),
         }
     }
 }

@@ -6,7 +6,7 @@ ghost use Rattle.t1_run.specs.Run.{Glyph};
 ghost use Rattle.t1_run.specs.RunKeys.{body_at};
 ghost use Rattle.t1_extent.specs.Kept.{TracedRun};
 ghost use Rattle.t1_afm.specs.declared.bbox.BBox.{BBox};
-ghost use Rattle.t1_cache.specs.declared.records.Named.TheVariants as named;
+ghost use Rattle.t1_font.specs.declared.owned_key.OwnedKey.TheVariants as named;
 ghost use Rattle.t1_cache.specs.Bodies.{record_bodies};
 ghost use Rattle.t1_cache.specs.Renewed.{reruns_by_name};
 ghost use Rattle.t1_cache.specs.Room.{count_at};
@@ -20,10 +20,11 @@ use crate::entry_change::EntryChange;
 use indexmap::{IndexMap, IndexSet};
 use std::alloc::{AllocError, Global};
 use t1_cache::{
-    BoxedRecord, Counts, GlyphRecord, Named, Names, NewRun, NewRuns, Records, Rerun, SubrRecord,
+    BoxedRecord, Counts, GlyphRecord, Names, NewRun, NewRuns, Records, Rerun, SubrRecord,
     count_joins, users_of_glyph, users_of_subr,
 };
 use t1_code::Body;
+use t1_font::OwnedKey;
 use t1_frac::Bytes;
 use t1_run::Bodies;
 
@@ -80,7 +81,7 @@ fn subr_step(
     ensures apart { IfOk result (λ step. (g : List ℕ) → inserts step g ≡ false) }
 {
     if records.subr(number).is_some() {
-        return Ok(RecordChange::Put(Named::Subr(number), body));
+        return Ok(RecordChange::Put(OwnedKey::Subr(number), body));
     }
     let users = users_of_subr(alloc, counts, number)?;
     Ok(RecordChange::InsertSubr(number, SubrRecord { body, users }))
@@ -106,11 +107,11 @@ fn glyph_step(
         ≡ (if inserts step g then None else new_run (reruns_by_name runs.old.entries) g)) }
 {
     if keeps_place(records, name.as_slice(), moved) {
-        return Ok(RecordChange::Put(Named::Glyph(name), body));
+        return Ok(RecordChange::Put(OwnedKey::Glyph(name), body));
     }
     let users = users_of_glyph(alloc, counts, name.as_slice())?;
     let Some(NewRun { run, bbox }) = taken_run(runs, name.as_slice()) else {
-        return Ok(RecordChange::Remove(Named::Glyph(name)));
+        return Ok(RecordChange::Remove(OwnedKey::Glyph(name)));
     };
     let record = GlyphRecord {
         body,
@@ -144,8 +145,8 @@ fn step_of(
         return Ok(RecordChange::Remove(named));
     };
     match named {
-        Named::Subr(number) => subr_step(alloc, records, number, body, counts),
-        Named::Glyph(name) => glyph_step(alloc, records, name, body, moved, counts, runs),
+        OwnedKey::Subr(number) => subr_step(alloc, records, number, body, counts),
+        OwnedKey::Glyph(name) => glyph_step(alloc, records, name, body, moved, counts, runs),
     }
 }
 
@@ -184,7 +185,7 @@ pub fn steps_with_room(
     alloc: Global,
     records: &Records,
     changes: Vec<EntryChange>,
-    joins: &[(Named, Vec<u8>)],
+    joins: &[(OwnedKey, Vec<u8>)],
     runs: &mut NewRuns,
 ) -> Result<Vec<RecordChange>, AllocError>
     requires { AreDistinctKeys (changed_keys changes.items) }
@@ -209,7 +210,7 @@ fn name_taken_out(step: &RecordChange) -> Option<&[u8]>
     ensures { IfSome result (λ name. takes_out step.now name.now ≡ true) }
 {
     match step {
-        RecordChange::Remove(Named::Glyph(name)) => Some(name.as_slice()),
+        RecordChange::Remove(OwnedKey::Glyph(name)) => Some(name.as_slice()),
         RecordChange::InsertGlyph(name, _) => Some(name.as_slice()),
         _ => None,
     }

@@ -5,23 +5,24 @@ ghost use Rattle.t1_run.specs.Touched.{is_key_of};
 ghost use Rattle.t1_cache.specs.Changed.{PutsBody, SetsBody, SetsUsers, UsesUp};
 ghost use Rattle.t1_cache.specs.Recorded.{kept_of};
 ghost use Rattle.t1_cache.specs.Users.{users_at};
-ghost use Rattle.t1_cache.specs.EditKeys.{key_of};
+ghost use Rattle.t1_font.specs.OwnedKeys.{key_of};
 ghost use Rattle.t1_run.specs.Run.{Key};
 ghost use Rattle.t1_rerun.specs.Steps.{seen_after, after_all, seen, AreTakenOut};
 
 use t1_cache::{
-    BoxedRecord, Named, Names, Records, SubrRecord, put_glyph, put_in_subr, put_last_glyph,
-    put_subr, remove_glyph, remove_glyphs, remove_subr,
+    BoxedRecord, Names, Records, SubrRecord, put_glyph, put_in_subr, put_last_glyph, put_subr,
+    remove_glyph, remove_glyphs, remove_subr,
 };
 use t1_code::Body;
+use t1_font::OwnedKey;
 
 /// A change of one record, with all the memory that it takes.
 #[derive(Drop)]
 pub enum RecordChange {
     /// The record is taken out.
-    Remove(Named),
+    Remove(OwnedKey),
     /// The record has another body.
-    Put(Named, Body),
+    Put(OwnedKey, Body),
     /// A new record is put in.
     InsertSubr(u16, SubrRecord),
     /// A new record is put in after the others; one that was there goes.
@@ -29,7 +30,7 @@ pub enum RecordChange {
 }
 
 /// Takes out the record of a Subr or a glyph.
-fn remove(records: &mut Records, named: &Named)
+fn remove(records: &mut Records, named: &OwnedKey)
     ensures bodies { SetsBody (key_of named.now) None records.old records.new }
     ensures users { SetsUsers (key_of named.now) None records.old records.new }
     ensures kept { map kept_of records.new.glyphs.entries
@@ -38,21 +39,21 @@ fn remove(records: &mut Records, named: &Named)
     ensures room { UsesUp 0 records.old records.new }
 {
     match named {
-        Named::Subr(number) => remove_subr(records, *number),
-        Named::Glyph(name) => remove_glyph(records, name.as_slice()),
+        OwnedKey::Subr(number) => remove_subr(records, *number),
+        OwnedKey::Glyph(name) => remove_glyph(records, name.as_slice()),
     }
 }
 
 /// Puts another body into the record of a Subr or a glyph.
-fn put(records: &mut Records, named: &Named, body: Body)
+fn put(records: &mut Records, named: &OwnedKey, body: Body)
     ensures bodies { PutsBody (key_of named.now) body records.old records.new }
     ensures users { (k : Key) → users_at records.new k ≡ users_at records.old k }
     ensures kept { map kept_of records.new.glyphs.entries ≡ map kept_of records.old.glyphs.entries }
     ensures room { UsesUp 0 records.old records.new }
 {
     match named {
-        Named::Subr(number) => put_subr(records, *number, body),
-        Named::Glyph(name) => put_glyph(records, name.as_slice(), body),
+        OwnedKey::Subr(number) => put_subr(records, *number, body),
+        OwnedKey::Glyph(name) => put_glyph(records, name.as_slice(), body),
     }
 }
 

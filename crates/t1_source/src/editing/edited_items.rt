@@ -11,8 +11,7 @@ use crate::editing::change::Change;
 use std::alloc::AllocError;
 use std::cmp;
 use t1_parts::{
-    Item, ItemRef, Items, ItemsIter, glyphs_needed, holds, lead_of, operator_of, says_lead,
-    subrs_needed,
+    Item, ItemRef, Items, ItemsIter, glyphs_needed, holds, lead_of, operator_of, subrs_needed,
 };
 
 /// Items in three parts: those before the place of an edit, those that it puts there, and those
@@ -29,7 +28,7 @@ fn say_lead(items: &ItemsIter) -> bool
     ensures { result ≡ list_any says_lead items.now }
 {
     let mut alone = items.again().alone();
-    alone.any(|item| says_lead(item))
+    alone.any(|item| item.as_ref().says_lead())
 }
 
 /// Whether an item is a plain line that holds `string currentfile`.

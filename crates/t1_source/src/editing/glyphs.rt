@@ -67,7 +67,7 @@ fn glyph_closing<'i>(items: &'i Items) -> &'i [u8]
     ensures { result.now ≡ closing_among is_glyph_entry (codes "noaccess def") items.now }
 {
     match first_glyph(items) {
-        Some(item) => closing_of(item),
+        Some(item) => closing_of(&item.as_ref()),
         None => b"noaccess def",
     }
 }

@@ -55,22 +55,12 @@ fn before_sections(items: &Items) -> usize
 }
 
 /// The bytes of a plain line.
-fn line_of<'i>(item: &'i Item) -> &'i [u8]
-    ensures { result.now ≡ line_of item.now }
-{
-    match item {
-        Item::Plain(line) => line.as_slice(),
-        _ => b"",
-    }
-}
-
-/// The bytes of a plain line where it stands.
-fn line_there<'i>(item: &ItemRef<'i, '_>) -> &'i [u8]
+fn line_of<'i>(item: &ItemRef<'i, '_>) -> &'i [u8]
     ensures { result.now ≡ line_of (item_of item.now) }
 {
     match item {
-        ItemRef::Line(line) => line,
-        ItemRef::Item(item) => line_of(item),
+        ItemRef::Plain(line) => line,
+        _ => b"",
     }
 }
 
@@ -79,7 +69,7 @@ fn line_at<'i>(at: usize, items: &'i Items) -> &'i [u8]
     requires { at < length items.now }
     ensures { result.now ≡ line_at at items.now }
 {
-    line_there(&items.item(at))
+    line_of(&items.item(at))
 }
 
 /// The first token of a line that begins at a place, with its place.

@@ -3,6 +3,7 @@
 
 mod change;
 mod edited_items;
+mod edited_source;
 mod entries;
 mod glyphs;
 mod hint;
@@ -29,6 +30,7 @@ use crate::editing::subrs::{adding_subr, removing_subr, replacing_subr};
 use crate::source::Source;
 pub use change::Change;
 pub use edited_items::EditedItems;
+pub use edited_source::EditedSource;
 pub use hint::Hint;
 pub use rules::body_words;
 use std::alloc::AllocError;

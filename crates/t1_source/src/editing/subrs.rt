@@ -20,7 +20,7 @@ use crate::editing::rules::{body_words, good_body, keeps, number_up_to};
 use crate::source::Source;
 use std::alloc::{AllocError, Global};
 use t1_frac::SourceText;
-use t1_parts::{EntryKey, Item, ItemKind, Items, is_subrs_line};
+use t1_parts::{EntryKey, Item, ItemKind, Items};
 
 /// Where the Subr of this number stands, which is looked for first among the few items before a
 /// place.
@@ -61,7 +61,7 @@ fn subr_closing<'i>(items: &'i Items) -> &'i [u8]
     ensures { result.now ≡ closing_among is_subr_entry (codes "noaccess put") items.now }
 {
     match first_subr(items) {
-        Some(item) => closing_of(item),
+        Some(item) => closing_of(&item.as_ref()),
         None => b"noaccess put",
     }
 }
@@ -79,7 +79,7 @@ fn has_subrs_line(items: &Items) -> bool
     ensures { result ≡ list_any is_subrs_line items.now }
 {
     let mut alone = items.iter().alone();
-    alone.any(|item| is_subrs_line(item))
+    alone.any(|item| item.as_ref().is_subrs_line())
 }
 
 /// Whether the font has a Subrs section.

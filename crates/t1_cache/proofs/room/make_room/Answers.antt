@@ -2,10 +2,10 @@ use Rattle.std.proofs.Common.{Vec, Global, ℕ, ◌∙◌, ◌+◌, ap, arith, c
 use Rattle.std.proofs.lemmas.List.{take_all}
 use Rattle.t1_run.specs.Run.{Key}
 use Rattle.t1_run.specs.RunKeys.{key_eq}
-use Rattle.t1_cache.specs.declared.records.Named.{Named}
+use Rattle.t1_font.specs.declared.owned_key.OwnedKey.{OwnedKey}
 use Rattle.t1_cache.specs.Room.{MayJoin}
 use Rattle.t1_cache.specs.Users.{users_at, pairs_of_key}
-use Rattle.t1_cache.specs.EditKeys.{key_of}
+use Rattle.t1_font.specs.OwnedKeys.{key_of}
 use Rattle.t1_cache.proofs.Rooming.{room-more, roomier-twice, wanted-more}
 use Rattle.t1_cache.proofs.room.make_room.Goals as goal
 
@@ -13,7 +13,7 @@ pub loop-named-preserved : goal.loop-named-preserved
 loop-named-preserved c =
     let joins = c.args.joins.now in
     let i = c.loop-named.named-index in
-    let item : Named × Vec ℕ Global = c.loop-named-item.result in
+    let item : OwnedKey × Vec ℕ Global = c.loop-named-item.result in
     let key = key_of item.0 in
     let old = users_at c.loop-named.records in
     let new = users_at c.make_room_at.new.records in

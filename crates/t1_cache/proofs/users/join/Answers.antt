@@ -2,7 +2,7 @@ use Rattle.std.proofs.Common.{ℕ, ◌+◌, cond}
 use Rattle.t1_cache.specs.declared.records.Records.{Records}
 use Rattle.t1_run.specs.RunKeys.{key_eq}
 use Rattle.t1_cache.specs.Users.{users_at, HasUserRoom}
-use Rattle.t1_cache.specs.EditKeys.{key_of}
+use Rattle.t1_font.specs.OwnedKeys.{key_of}
 use Rattle.t1_font.proofs.Keys.{at-key}
 use Rattle.t1_cache.proofs.users.join.Goals as goal
 

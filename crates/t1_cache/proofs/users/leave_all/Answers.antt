@@ -1,17 +1,17 @@
 use Rattle.std.proofs.Common.{Vec, Global, ℕ, not, ap, sym, ◌∙◌}
 use Rattle.std.specs.Prelude.{◌&&◌}
 use Rattle.std.specs.Str.{bytes_eq}
-use Rattle.t1_cache.specs.declared.records.Named.{Named}
+use Rattle.t1_font.specs.declared.owned_key.OwnedKey.{OwnedKey}
 use Rattle.t1_run.specs.RunKeys.{key_eq}
 use Rattle.t1_cache.specs.Users.{has_pair, lists}
-use Rattle.t1_cache.specs.EditKeys.{key_of}
+use Rattle.t1_font.specs.OwnedKeys.{key_of}
 use Rattle.t1_cache.proofs.Adding.{left-last}
 use Rattle.t1_cache.proofs.users.leave_all.Goals as goal
 
 pub loop-named-preserved : goal.loop-named-preserved
 loop-named-preserved c =
     let rest = c.pop.new.self.items in
-    let p : Named × Vec ℕ Global = (c.in-Some.named, c.in-Some.name) in
+    let p : OwnedKey × Vec ℕ Global = (c.in-Some.named, c.in-Some.name) in
     let reported = c.leave.ensures in
     let was = c.loop-named.invariant in
     let had = lists c.loop-named.records in

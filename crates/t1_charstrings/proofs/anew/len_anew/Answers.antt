@@ -1,7 +1,7 @@
 use Rattle.std.proofs.Common.{◌∙◌, sym}
 use Rattle.std.proofs.lemmas.Result.{err_from_is_err_and}
 use Rattle.t1_source.specs.EditedItems.{edited_items}
-use Rattle.t1_charstrings.specs.Made.{made_of}
+use Rattle.t1_source.specs.EditedSource.{made_of}
 use Rattle.t1_charstrings.proofs.Entered.{counts_refused, file_passed, length_refused}
 use Rattle.t1_charstrings.proofs.MadeItems.{counts_made, len_made}
 use Rattle.t1_charstrings.proofs.anew.len_anew.Goals as goal

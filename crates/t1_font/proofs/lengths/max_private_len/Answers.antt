@@ -19,6 +19,6 @@ loop-item-preserved c = (
   λ short. λ text. λ whole.
       let before = c.loop-item.invariant.2 (omega (arith, c.saturating_add-total.ensures, short)) text whole in
       let seen = sym (ap (private_text c.args.lead c.args.operator.now) c.in-Some.ensures.steps) ∙ before.1 in
-      text_within c.args.lead c.args.operator.now (item_of c.in-Some.item) c.next.new.self text before.0 c.max_line_ref_len.result c.loop-item.total c.saturating_add-total.result
-      (c.max_line_ref_len.ensures (omega (arith, c.saturating_add-total.ensures, short))) seen before.2 (omega (arith, c.saturating_add-total.ensures, short)),
+      text_within c.args.lead c.args.operator.now (item_of c.in-Some.item) c.next.new.self text before.0 c.max_line_len.result c.loop-item.total c.saturating_add-total.result
+      (c.max_line_len.ensures (omega (arith, c.saturating_add-total.ensures, short))) seen before.2 (omega (arith, c.saturating_add-total.ensures, short)),
 )

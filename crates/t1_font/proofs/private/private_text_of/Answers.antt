@@ -9,6 +9,6 @@ pub loop-item-preserved : goal.loop-item-preserved
 loop-item-preserved c = (
   tt,
   tt,
-  next_item c.args.lead c.args.operator.now (item_of c.in-Some.item) c.next.new.self c.loop-item.text.items c.push_item_ref.new.text.items _ c.in_ok-push_item_ref.ensures
+  next_item c.args.lead c.args.operator.now (item_of c.in-Some.item) c.next.new.self c.loop-item.text.items c.push_item.new.text.items _ c.in_ok-push_item.ensures
       (sym (ap (λ left. put_after c.loop-item.text.items (private_text c.args.lead c.args.operator.now left)) c.in-Some.ensures.steps) ∙ c.loop-item.invariant.2),
 )

@@ -1,7 +1,8 @@
-use Rattle.std.proofs.Common.{◌≡◌, ◌∷◌, true, ap, length, sym, ◌∙◌, subst, drop, arith, rules}
+use Rattle.std.proofs.Common.{◌≡◌, ◌∷◌, ap, length, sym, ◌∙◌, subst, drop, arith}
 use Rattle.t1_text.specs.Lines.{lines}
 use Rattle.t1_text.proofs.CutLaws.{lines_within}
 use Rattle.t1_parts.specs.Entries.{has_numbered}
+use Rattle.t1_parts.specs.LineKinds.{IsOfKind}
 use Rattle.t1_parts.specs.PlainRuns.{AreAmong}
 use Rattle.t1_parts.specs.Sections.{is_subrs_line, is_glyphs_line}
 use Rattle.t1_parts.proofs.PlainRunLaws.{among_more}
@@ -23,7 +24,7 @@ loop-line-preserved c =
     let here : drop c.loop-line.count ls ≡ line ∷ lines c.next_line.result.1.now = sym so_far.0.2 ∙ cut.lines in
     let subrs = has_numbered is_subrs_line c.args.earlier.now in
     let glyphs = has_numbered is_glyphs_line c.args.earlier.now in
-    let on : c.is_among.result ≡ true = search rules in (
+    let among = subst (IsOfKind subrs glyphs line) c.in-Among.is c.kind_of.ensures in (
       cut_line_on c.loop-line.count c.args.bytes.now c.loop-line.rest.now line c.next_line.result.1.now so_far.0 cut.lines cut.shorter cut.cut,
-      subst (AreAmong subrs glyphs) (sym (one_more c.loop-line.count ls line (lines c.next_line.result.1.now) here)) (among_more subrs glyphs _ line so_far.1 (c.is_among.ensures on)),
+      subst (AreAmong subrs glyphs) (sym (one_more c.loop-line.count ls line (lines c.next_line.result.1.now) here)) (among_more subrs glyphs _ line so_far.1 among),
     )

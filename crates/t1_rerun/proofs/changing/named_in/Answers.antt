@@ -1,6 +1,6 @@
 use Rattle.std.proofs.Common.{◌∙◌, ◌++◌, [], ◌∷◌, ap, arith, map, sym, take}
 use Rattle.std.proofs.lemmas.List.{map-append, take_all}
-use Rattle.t1_cache.specs.EditKeys.{key_of}
+use Rattle.t1_font.specs.OwnedKeys.{key_of}
 use Rattle.t1_rerun.specs.Settled.{changed_keys}
 use Rattle.t1_rerun.proofs.ChangedBodies.{keys-more}
 use Rattle.t1_rerun.proofs.changing.named_in.Goals as goal

@@ -2,7 +2,7 @@ use Rattle.std.proofs.Common.{◌∙◌, ap, length, map, subst}
 use Rattle.std.specs.Prelude.{IfOk}
 use Rattle.t1_font.specs.Runs.{Counts}
 use Rattle.t1_cache.specs.Edited.{stale}
-use Rattle.t1_cache.specs.EditKeys.{key_of}
+use Rattle.t1_font.specs.OwnedKeys.{key_of}
 use Rattle.t1_rerun.specs.Changing.{edited_font}
 use Rattle.t1_rerun.specs.Renewals.{IsRenewal}
 use Rattle.t1_rerun.proofs.ChangedBodies.{is-edit}

@@ -9,7 +9,7 @@ use Rattle.std.proofs.lemmas.Result.{err_from_is_err_and}
 use Rattle.t1_run.specs.Run.{font}
 use Rattle.t1_font.specs.Bodies.{bodies}
 use Rattle.t1_cache.specs.Users.{is_name_among}
-use Rattle.t1_cache.specs.EditKeys.{key_of}
+use Rattle.t1_font.specs.OwnedKeys.{key_of}
 use Rattle.t1_cache.specs.Edited.{stale}
 use Rattle.std.specs.List.{AllByRecursion, list_any}
 use Rattle.t1_rerun.specs.Renewals.{HasRun, IsMeasuredRerun}

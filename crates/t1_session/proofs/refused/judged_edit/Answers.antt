@@ -17,10 +17,10 @@ pub returns-clause-checked : goal.returns-clause-checked
 returns-clause-checked c =
     let made = (changed c.args.change.now c.args.source.now c.args.pairs.now).0 in
     subst (λ (r : Option Refusal). MatchOption r (source_check made ≡ Ok (tt {0})) (λ refusal. Refuses refusal (source_check made))) (sym c.err.ensures.value)
-    (judged c.prepare_edits.result made c.prepare_edits.ensures.checked)
+    (judged c.prepare_edit.result made c.prepare_edit.ensures.checked)
 
 pub returns-clause-held : goal.returns-clause-held
-returns-clause-held c = c.prepare_edits.ensures.held c.args.source.now c.requires.held
+returns-clause-held c = c.prepare_edit.ensures.held c.args.source.now c.requires.held
 
 pub returns-clause-kept : goal.returns-clause-kept
-returns-clause-kept c = c.prepare_edits.ensures.kept
+returns-clause-kept c = c.prepare_edit.ensures.kept

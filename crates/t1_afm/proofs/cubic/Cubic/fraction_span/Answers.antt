@@ -5,6 +5,6 @@ use Rattle.t1_afm.proofs.cubic.Cubic.fraction_span.Goals as goal
 
 pub returns-then-inner-ends : goal.returns-then-inner-ends
 returns-then-inner-ends c =
-    between c.line_span-ends.result c.line_span-inner.result _ _ _ _ c.args.self.now.start_within c.args.self.now.first_within c.args.self.now.second_within c.args.self.now.end_within c.line_span-ends.ensures c.line_span-inner.ensures
+    between c.span-ends.result c.span-inner.result _ _ _ _ c.args.self.now.start_within c.args.self.now.first_within c.args.self.now.second_within c.args.self.now.end_within c.span-ends.ensures c.span-inner.ensures
     (record { below = omega (arith, ints, c.if-ends-inner.true) })
     (record { below = omega (arith, ints, c.if-inner-ends.true) })

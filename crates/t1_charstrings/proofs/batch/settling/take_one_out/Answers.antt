@@ -11,8 +11,8 @@ pub returns-in-Glyph-clause-sets : goal.returns-in-Glyph-clause-sets
 returns-in-Glyph-clause-sets c =
     let old : Charstrings = c.args.charstrings.now in
     let new : Charstrings = record old { glyphs = c.swap_remove-in-Glyph.new.self } in
-    let name = c.in-Glyph.name.items in
+    let name = c.in-Glyph.name in
     rw c.in-Glyph.is
     (at-key (λ k. charstring_at new k ≡ cond (key_eq k (Glyph name)) None (charstring_at old k))
     (λ n. refl)
-    (taken-at (λ k. k.items) old.glyphs.entries new.glyphs.entries c.as_slice.result.now name c.as_slice.ensures.value c.swap_remove-in-Glyph.ensures.updates.0))
+    (taken-at (λ k. k.items) old.glyphs.entries new.glyphs.entries c.as_slice.result.now name c.as_slice.ensures c.swap_remove-in-Glyph.ensures.updates.0))

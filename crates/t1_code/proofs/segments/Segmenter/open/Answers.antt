@@ -1,4 +1,4 @@
-use Rattle.std.proofs.Common.{◌≡◌, ◌≤◌, ◌<◌, ◌∙◌, List, ℕ, min, refl, ap, subst, arith}
+use Rattle.std.proofs.Common.{◌≡◌, ◌≤◌, ◌<◌, List, ℕ, min, refl, ap, subst, arith}
 use Rattle.std.proofs.lemmas.Result.{err_from_is_err_and}
 use Rattle.t1_code.specs.Writing.{Passes, Stops, outlet}
 use Rattle.t1_code.proofs.Segmenting.{no_head, head_given, start_given}
@@ -10,7 +10,7 @@ returns-clause-text g c =
     let s = c.args.self.now in
     let v = c.self.view_is in
     let full : s.room ≤ 0 = omega (arith, ap (λ s. s.room) v, c.if-self-gt0.false) in
-    let count : c.min.result ≡ min s.size s.left = omega (arith, ap (λ s. s.size) v, ap (λ s. s.left) v, c.min.ensures) in
+    let count : c.min.result ≡ min s.size s.left = omega (arith, ap (λ s. s.size) v, ap (λ s. s.left) v, c.min.ensures, c.get.ensures.value) in
     subst (λ (head : List ℕ). Passes g.W.Write.contents (outlet c.args.out.now c.args.chunk.now) (outlet c.put_plain.new.out c.put_plain.new.chunk) head)
     (head_given s c.self.inside.kind c.min.result c.segment_head.result full (ap (λ s. s.kind) v) count c.segment_head.ensures) c.in_ok-put_plain.ensures
 
@@ -19,7 +19,7 @@ returns-clause-state g c =
     let s = c.args.self.now in
     let v = c.self.view_is in
     let full : s.room ≤ 0 = omega (arith, ap (λ s. s.room) v, c.if-self-gt0.false) in
-    start_given s _ full (rw (ap (λ s. s.kind) v, ap (λ s. s.size) v, ap (λ s. s.left) v) refl)
+    start_given s _ full (rw (c.get-self-inside.ensures.value, ap (λ s. s.kind) v, ap (λ s. s.size) v, ap (λ s. s.left) v) refl)
 
 pub returns-then-self-gt0-clause-text : goal.returns-then-self-gt0-clause-text
 returns-then-self-gt0-clause-text g c =
@@ -34,6 +34,6 @@ returns-in_err-put_plain-clause-text g c =
     let s = c.args.self.now in
     let v = c.self.view_is in
     let full : s.room ≤ 0 = omega (arith, ap (λ s. s.room) v, c.if-self-gt0.false) in
-    let count : c.min.result ≡ min s.size s.left = omega (arith, ap (λ s. s.size) v, ap (λ s. s.left) v, c.min.ensures) in
+    let count : c.min.result ≡ min s.size s.left = omega (arith, ap (λ s. s.size) v, ap (λ s. s.left) v, c.min.ensures, c.get.ensures.value) in
     rw p.1 (subst (λ (head : List ℕ). Stops g.W.Write.contents (outlet c.args.out.now c.args.chunk.now) (outlet c.put_plain.new.out c.put_plain.new.chunk) head)
     (head_given s c.self.inside.kind c.min.result c.segment_head.result full (ap (λ s. s.kind) v) count c.segment_head.ensures) c.in_err-put_plain.ensures)

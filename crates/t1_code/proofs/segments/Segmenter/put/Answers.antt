@@ -4,7 +4,7 @@ use Rattle.std.proofs.lemmas.Result.{err_from_is_err_and}
 use Rattle.t1_code.specs.Writing.{outlet}
 use Rattle.t1_code.specs.Segments.{segment_opened, in_segments, segmenting_after}
 use Rattle.t1_code.proofs.Carrying.{Carried-none, Carried-all, Carried-end}
-use Rattle.t1_code.proofs.Segmenting.{cutting, some_of, room_opens, head_fails, front_fails, front_passes}
+use Rattle.t1_code.proofs.Segmenting.{cutting, some_of, head_fails, front_fails, front_passes}
 use Rattle.t1_code.proofs.Writing.{nothing_left}
 use Rattle.t1_code.proofs.segments.Segmenter.put.Goals as goal
 
@@ -37,8 +37,7 @@ returns-in_err-put_plain-clause-text g c =
     let parts : c.loop-rest.rest.now ≡ front ++ after = rw (c.split_at.ensures.front, c.split_at.ensures.back) (sym (take-append-drop c.min.result c.loop-rest.rest.now)) in
     let is_open = c.self.view_is ∙ c.in_ok-open.ensures.state in
     let room : c.self.inside.room ≡ (segment_opened s).room = ap (λ v. v.room) is_open in
-    let size : c.self.inside.size ≡ (segment_opened s).size = ap (λ v. v.size) is_open in
-    let opens = room_opens s (omega (arith, size, c.self.invariant.0)) in
+    let opens : 0 < (segment_opened s).room = omega (arith, ap (λ v. v.room) c.in_ok-open.ensures.state, c.in_ok-open.ensures.room) in
     let left : 0 < length c.loop-rest.rest.now = some_of (length c.loop-rest.rest.now) (sym c.is_empty.ensures ∙ c.loop-rest-test.true) in
     let some : 0 < length front = omega (arith, opens, left, room, c.min.ensures, c.split_at.ensures.front_len) in
     let short : length front ≤ (segment_opened s).room = omega (arith, room, c.min.ensures, c.split_at.ensures.front_len) in
@@ -54,7 +53,7 @@ loop-rest-preserved g c =
     let is_open = c.self.view_is ∙ c.in_ok-open.ensures.state in
     let room : c.self.inside.room ≡ (segment_opened s).room = ap (λ v. v.room) is_open in
     let size : c.self.inside.size ≡ (segment_opened s).size = ap (λ v. v.size) is_open in
-    let opens = room_opens s (omega (arith, size, c.self.invariant.0)) in
+    let opens : 0 < (segment_opened s).room = omega (arith, ap (λ v. v.room) c.in_ok-open.ensures.state, c.in_ok-open.ensures.room) in
     let left : 0 < length c.loop-rest.rest.now = some_of (length c.loop-rest.rest.now) (sym c.is_empty.ensures ∙ c.loop-rest-test.true) in
     let some : 0 < length front = omega (arith, opens, left, room, c.min.ensures, c.split_at.ensures.front_len) in
     let short : length front ≤ (segment_opened s).room = omega (arith, room, c.min.ensures, c.split_at.ensures.front_len) in

@@ -1,9 +1,10 @@
-use Rattle.std.proofs.Common.{◌∙◌, ap, refl, sym, subst, length, arith}
+use Rattle.std.proofs.Common.{◌∙◌, ◌∷◌, [], ap, refl, sym, subst, length, arith}
 use Rattle.std.specs.List.{insert}
 use Rattle.std.proofs.lemmas.List.Edits.{length-insert}
 use Rattle.t1_parts.specs.Items.{items_in}
 use Rattle.t1_parts.specs.EntryKeys.{AreSectionsBefore}
-use Rattle.t1_parts.specs.LenIV.{lead_among}
+use Rattle.t1_parts.specs.LenIV.{lead_among, says_lead}
+use Rattle.t1_parts.specs.Needs.{AreNeeded}
 use Rattle.t1_parts.specs.declared.stretch.Stretch.TheVariants.{One}
 use Rattle.t1_parts.proofs.LeadKeptLaws.{lead_inserted}
 use Rattle.t1_parts.proofs.NeedLaws.{glyphs_within, needs_inserted}
@@ -18,7 +19,7 @@ invariant_of-self-2 c =
     let old = items_in c.self.inside.stretches in
     let needs =
     needs_inserted c.self.inside.needs c.needs_of-more.result c.together-self-inside.result c.args.at old _ c.args.item (c.self.invariant.2, c.self.invariant.3)
-    c.needs_of-more.ensures.needs c.together-self-inside.ensures.subrs c.together-self-inside.ensures.glyphs made in
+    (subst (λ kind. AreNeeded c.needs_of-more.result (kind ∷ [])) c.as_ref-2.ensures c.needs_of-more.ensures.needs) c.together-self-inside.ensures.subrs c.together-self-inside.ensures.glyphs made in
     let ends =
     subst (AreSectionsBefore c.end_inserted-sections_end.result) (sym made) (c.end_inserted-sections_end.ensures old (omega (arith, view, c.requires)) (c.self.invariant.4, c.self.invariant.5)) in
     let size = ap length made in (
@@ -54,7 +55,7 @@ lead_after-self-inside-requires-clause-len c =
 pub lead_after-self-inside-requires-clause-same : goal.lead_after-self-inside-requires-clause-same
 lead_after-self-inside-requires-clause-same c silent =
     let made = inserted c.args.at c.in-Ok.index c.self.inside.stretches c.cut_before.new.self c.insert.new.self (One c.args.item) c.args.item c.cut_before.ensures.same c.in-Ok.ensures.within c.in-Ok.ensures.before refl c.in_ok-insert.ensures.ok in
-    lead_inserted c.self.inside.lead c.args.at (items_in c.self.inside.stretches) (items_in c.as_slice.result.now) c.args.item c.self.invariant.1 (sym c.says_lead-is_said.ensures ∙ silent) (ap items_in c.as_slice.ensures ∙ made)
+    lead_inserted c.self.inside.lead c.args.at (items_in c.self.inside.stretches) (items_in c.as_slice.result.now) c.args.item c.self.invariant.1 (ap says_lead (sym c.as_ref.ensures) ∙ sym c.says_lead-is_said.ensures ∙ silent) (ap items_in c.as_slice.ensures ∙ made)
 
 pub returns-clause-ok : goal.returns-clause-ok
 returns-clause-ok c =

@@ -3,7 +3,8 @@ use Rattle.std.proofs.lemmas.List.{length-append}
 use Rattle.t1_parts.specs.declared.stretch.Stretch.TheVariants.{One}
 use Rattle.t1_parts.specs.Items.{items_in}
 use Rattle.t1_parts.specs.EntryKeys.{AreSectionsBefore}
-use Rattle.t1_parts.specs.LenIV.{lead_among}
+use Rattle.t1_parts.specs.LenIV.{lead_among, says_lead}
+use Rattle.t1_parts.specs.Needs.{AreNeeded}
 use Rattle.t1_parts.proofs.LeadKeptLaws.{lead_pushed, one_silent}
 use Rattle.t1_parts.proofs.NeedLaws.{glyphs_within, needs_pushed}
 use Rattle.t1_parts.proofs.SingleLaws.{items_pushed}
@@ -16,7 +17,7 @@ invariant_of-self-2 c =
     let made = ap items_in c.in_ok-push.ensures.ok ∙ items_pushed ss (One item) in
     let needs =
     needs_pushed c.self.inside.needs c.needs_of-more.result c.together-self-inside.result (items_in ss) (item ∷ []) _ (c.self.invariant.2, c.self.invariant.3)
-    c.needs_of-more.ensures.needs c.together-self-inside.ensures.subrs c.together-self-inside.ensures.glyphs made in
+    (subst (λ kind. AreNeeded c.needs_of-more.result (kind ∷ [])) c.as_ref-2.ensures c.needs_of-more.ensures.needs) c.together-self-inside.ensures.subrs c.together-self-inside.ensures.glyphs made in
     let ends =
     subst (AreSectionsBefore c.end_pushed-sections_end.result) (sym made)
     (c.end_pushed-sections_end.ensures (items_in ss) (omega (arith, c.self.invariant.0, c.in-Some.ensures)) (c.self.invariant.4, c.self.invariant.5)) in
@@ -49,7 +50,7 @@ lead_after-self-inside-requires-clause-same c silent =
     let item = c.args.item in
     let more = ap items_in (c.as_slice.ensures ∙ c.in_ok-push.ensures.ok) ∙ items_pushed ss (One item) in
     lead_pushed c.self.inside.lead (items_in ss) (item ∷ []) (items_in c.as_slice.result.now) c.self.invariant.1
-    (one_silent item (sym c.says_lead-is_said.ensures ∙ silent)) more
+    (one_silent item (ap says_lead (sym c.as_ref.ensures) ∙ sym c.says_lead-is_said.ensures ∙ silent)) more
 
 pub returns-clause-ok : goal.returns-clause-ok
 returns-clause-ok c =

@@ -36,7 +36,7 @@ needs_without-self-inside-requires-clause-subrs c =
     let view = ap length c.self.view_is in
     let made = removed c.args.at c.in_ok-index.index c.self.inside.stretches c.cut_before.new.self c.drop_first.new.self c.cut_before.ensures.same c.in_ok-index.ensures.before c.drop_first.ensures in
     let there : slice_index_or items c.args.at d ≡ item_of c.item-item.result = ap (λ xs. slice_index_or xs c.args.at d) c.self.view_is ∙ c.item-item.ensures d in
-    (needs_parted c.self.inside.needs c.needs_there-gone.result c.args.at items (items_in c.as_slice.result.now) d (item_of c.item-item.result) (c.self.invariant.2, c.self.invariant.3) c.needs_there-gone.ensures
+    (needs_parted c.self.inside.needs c.needs_of-gone.result c.args.at items (items_in c.as_slice.result.now) d (item_of c.item-item.result) (c.self.invariant.2, c.self.invariant.3) c.needs_of-gone.ensures.needs
     (omega (arith, view, c.requires)) there (ap items_in c.as_slice.ensures ∙ made)).0
 
 pub needs_without-self-inside-requires-clause-glyphs : goal.needs_without-self-inside-requires-clause-glyphs
@@ -46,7 +46,7 @@ needs_without-self-inside-requires-clause-glyphs c =
     let view = ap length c.self.view_is in
     let made = removed c.args.at c.in_ok-index.index c.self.inside.stretches c.cut_before.new.self c.drop_first.new.self c.cut_before.ensures.same c.in_ok-index.ensures.before c.drop_first.ensures in
     let there : slice_index_or items c.args.at d ≡ item_of c.item-item.result = ap (λ xs. slice_index_or xs c.args.at d) c.self.view_is ∙ c.item-item.ensures d in
-    (needs_parted c.self.inside.needs c.needs_there-gone.result c.args.at items (items_in c.as_slice.result.now) d (item_of c.item-item.result) (c.self.invariant.2, c.self.invariant.3) c.needs_there-gone.ensures
+    (needs_parted c.self.inside.needs c.needs_of-gone.result c.args.at items (items_in c.as_slice.result.now) d (item_of c.item-item.result) (c.self.invariant.2, c.self.invariant.3) c.needs_of-gone.ensures.needs
     (omega (arith, view, c.requires)) there (ap items_in c.as_slice.ensures ∙ made)).1
 
 pub needs_without-self-inside-requires-clause-len : goal.needs_without-self-inside-requires-clause-len

@@ -1,7 +1,7 @@
 use Rattle.std.proofs.Common.{Bool, List, ℕ, Some, Option}
 use Rattle.t1_extent.specs.Kept.{TracedRun}
 use Rattle.t1_afm.specs.declared.bbox.BBox.{BBox}
-use Rattle.t1_cache.specs.declared.records.Named.TheVariants as named
+use Rattle.t1_font.specs.declared.owned_key.OwnedKey.TheVariants as named
 use Rattle.t1_cache.specs.Renewed.{reruns_by_name}
 use Rattle.t1_cache.specs.Room.{count_at}
 use Rattle.t1_rerun.specs.Steps.{entry_change, new_run, IsStepOf}

@@ -16,8 +16,8 @@ use Rattle.t1_session.proofs.RerunLaws.{edit_prepared, edit_spends, edit_unmade,
 use Rattle.t1_session.proofs.StateLaws.{refused_takes}
 use Rattle.t1_session.proofs.session.Session.make.Goals as goal
 
-pub prepare_edits-prepared-requires : goal.prepare_edits-prepared-requires
-prepare_edits-prepared-requires c =
+pub prepare_edit-prepared-requires : goal.prepare_edit-prepared-requires
+prepare_edit-prepared-requires c =
     let s = c.self.inside in
     edit_prepared s.source s.pairs s.held c.args.edit.now c.args.change c.self.invariant.0 c.text_of_source_read.ensures
     (subst (λ (v : SessionView). Suits c.args.change v.state.source v.state.pairs) (sym c.self.view_is) c.requires.serves)
@@ -32,7 +32,7 @@ returns-in_err-commit-clause-runs c =
     rw p.1 (edit_unmade now _ s.source (changed c.args.change now.state.source now.state.pairs).0 c.args.edit.now s.meter (map kept_of s.held.records.glyphs.entries)
     (ap (λ v. v.state.source) (sym is)) (ap (λ v. v.kept) (sym is)) (ap (λ v. v.runs) (sym is)) c.in-Ok.ensures.kept
     (subst (λ (v : SessionView). source_check (changed c.args.change v.state.source v.state.pairs).0 ≡ Ok tt) is c.in-Ok.ensures.checked)
-    (subst (λ (v : SessionView). c.prepare_edits-prepared.new.meter ≡ counted s.meter (renewing_runs c.args.edit.now s.source (changed c.args.change v.state.source v.state.pairs).0)) is c.in-Ok.ensures.counted))
+    (subst (λ (v : SessionView). c.prepare_edit-prepared.new.meter ≡ counted s.meter (renewing_runs c.args.edit.now s.source (changed c.args.change v.state.source v.state.pairs).0)) is c.in-Ok.ensures.counted))
 
 pub returns-in-Err-clause-took : goal.returns-in-Err-clause-took
 returns-in-Err-clause-took c =
@@ -50,7 +50,7 @@ returns-in-Err-clause-runs c =
     let is = c.self.view_is in
     edit_spends ReadyHeld now _ s.source (changed c.args.change now.state.source now.state.pairs).0 c.args.edit.now s.meter (map kept_of s.held.records.glyphs.entries) c.in-Err.refusal
     (ap (λ v. v.state.source) (sym is)) (ap (λ v. v.kept) (sym is)) (ap (λ v. v.runs) (sym is)) c.in-Err.ensures.kept
-    (subst (λ (v : SessionView). Counts {T = ReadyHeld} (renewing_runs c.args.edit.now s.source (changed c.args.change v.state.source v.state.pairs).0) s.meter c.prepare_edits-prepared.new.meter (Err c.in-Err.refusal)) is c.in-Err.ensures.counted)
+    (subst (λ (v : SessionView). Counts {T = ReadyHeld} (renewing_runs c.args.edit.now s.source (changed c.args.change v.state.source v.state.pairs).0) s.meter c.prepare_edit-prepared.new.meter (Err c.in-Err.refusal)) is c.in-Err.ensures.counted)
 
 pub returns-in_err-commit-clause-took : goal.returns-in_err-commit-clause-took
 returns-in_err-commit-clause-took c = search rules

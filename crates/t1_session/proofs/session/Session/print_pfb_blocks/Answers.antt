@@ -5,5 +5,5 @@ pub returns-clause-no_fault : goal.returns-clause-no_fault
 returns-clause-no_fault g c =
     let s = c.self.inside in
     let made = blocks_made s.source c.args.size (held_checked s.source s.held c.self.invariant.0) in
-    let wrote = rw c.in_blocks-form.ensures at c.write_held_file.ensures in
+    let wrote = rw c.new-size.ensures at c.write_held_file.ensures in
     no_fault g.W.Write.contents c.args.out.now c.write_held_file.new.out _ made.0 c.write_held_file.result made.1 wrote

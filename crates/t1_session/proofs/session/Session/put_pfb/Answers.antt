@@ -12,6 +12,5 @@ pub returns : goal.returns
 returns g c =
     let size = c.args.size in
     let is = data_blocks_scratch c.args.self.now.state size c.reads_back.ensures.faultless c.reads_back.ensures.source in
-    let wrote = rw c.in_blocks-form.ensures at c.write_held_file.ensures in
     subst (λ (text : Result (List ℕ) Fault). Prints g.W.Write.contents c.args.out.now c.write_held_file.new.out text c.write_held_file.result) is
-    (subst (λ (v : SessionView). Prints g.W.Write.contents c.args.out.now c.write_held_file.new.out (file_in (λ clear private trailer. data_of (pfb_of size clear private trailer)) v.state.source) c.write_held_file.result) c.self.view_is wrote)
+    (subst (λ (v : SessionView). Prints g.W.Write.contents c.args.out.now c.write_held_file.new.out (file_in (λ clear private trailer. data_of (pfb_of size clear private trailer)) v.state.source) c.write_held_file.result) c.self.view_is c.write_held_file.ensures)
