@@ -3,7 +3,7 @@ ghost use Rattle.std.specs.Prelude.{◌≡◌, ◌≢◌, [], ◌∷◌, ◌++�
 ghost use Rattle.std.specs.Prelude.{◌≤◌, ◌<◌, IfSome, decimal, option_map, position};
 ghost use Rattle.std.specs.List.{position_or_len};
 ghost use Rattle.std.specs.Fmt.{signed_decimal};
-ghost use Rattle.t1_code.specs.Writing.{Puts, Writes, outlet};
+ghost use Rattle.t1_code.specs.Writing.{Puts, Writes};
 ghost use Rattle.t1_code.specs.Parts.{Prints};
 ghost use Rattle.t1_afm.specs.Afm.{line_text, lines_text, value_lines, values_before_box as names};
 ghost use Rattle.t1_afm.specs.Afm.{values_after_box as others, scheme as scheme_of, header_lines};
@@ -18,7 +18,7 @@ use crate::line::{Word, put_line};
 use crate::metrics::{CharMetric, CompositeMetric, Header, KernPair, Metrics, Text};
 use crate::part::{Part, Value, put_parts, sides};
 use std::io::{self, Write};
-use t1_code::{Chunk, Counted, OutError};
+use t1_code::{Counted, OutError, Outlet};
 
 /// A key with the text of its value.
 fn text<'a>(key: &'a [u8], value: &'a Option<Text<'a>>) -> Value<'a>
@@ -115,11 +115,11 @@ fn heights(chars: &[CharMetric]) -> [Value<'static>; 4]
     ]
 }
 
-fn put_values<W: Write>(out: &mut Counted<W>, chunk: &mut Chunk, values: &[Value]) -> io::Result<()>
-    ensures { Puts W.contents (outlet out.old chunk.old) (outlet out.new chunk.new)
+fn put_values<W: Write>(outlet: &mut Outlet<W>, values: &[Value]) -> io::Result<()>
+    ensures { Puts W.contents outlet.old outlet.new
         (lines_text (value_lines (values_of values.now))) result }
 {
-    put_parts(out, chunk, values)
+    put_parts(outlet, values)
 }
 
 /// The name of the encoding.
@@ -134,22 +134,17 @@ fn scheme(standard: bool) -> &'static [u8]
 }
 
 /// Puts the lines about the whole font.
-fn put_header<W: Write>(
-    out: &mut Counted<W>,
-    chunk: &mut Chunk,
-    metrics: &Metrics,
-) -> io::Result<()>
-    ensures { Puts W.contents (outlet out.old chunk.old) (outlet out.new chunk.new)
+fn put_header<W: Write>(outlet: &mut Outlet<W>, metrics: &Metrics) -> io::Result<()>
+    ensures { Puts W.contents outlet.old outlet.new
         (lines_text (header_lines metrics.now.header metrics.now.standard metrics.now.font_box))
         result }
 {
-    put_line(out, chunk, b"StartFontMetrics", &[Word::Text(b"4.1")])?;
-    put_values(out, chunk, &values_before_box(&metrics.header))?;
-    put_line(out, chunk, b"FontBBox", &sides(&metrics.font_box))?;
-    put_values(out, chunk, &values_after_box(&metrics.header))?;
+    put_line(outlet, b"StartFontMetrics", &[Word::Text(b"4.1")])?;
+    put_values(outlet, &values_before_box(&metrics.header))?;
+    put_line(outlet, b"FontBBox", &sides(&metrics.font_box))?;
+    put_values(outlet, &values_after_box(&metrics.header))?;
     put_line(
-        out,
-        chunk,
+        outlet,
         b"EncodingScheme",
         &[Word::Text(scheme(metrics.standard))],
     )
@@ -157,103 +152,87 @@ fn put_header<W: Write>(
 
 /// Puts parts between a line that counts them and a line that ends them.
 fn put_section<W: Write, P: Part>(
-    out: &mut Counted<W>,
-    chunk: &mut Chunk,
+    outlet: &mut Outlet<W>,
     start: &[u8],
     end: &[u8],
     parts: &[P],
 ) -> io::Result<()>
-    ensures { Puts W.contents (outlet out.old chunk.old) (outlet out.new chunk.new)
+    ensures { Puts W.contents outlet.old outlet.new
         (line_text (start.now ∷ decimal (length parts.now) ∷ [])
         ++ (flat_map P.text parts.now ++ line_text (end.now ∷ []))) result }
 {
-    put_line(out, chunk, start, &[Word::Count(parts.len())])?;
-    put_parts(out, chunk, parts)?;
-    put_line(out, chunk, end, &[])
+    put_line(outlet, start, &[Word::Count(parts.len())])?;
+    put_parts(outlet, parts)?;
+    put_line(outlet, end, &[])
 }
 
 /// Puts the lines of the glyphs, between the line that counts them and the one that ends them.
-fn put_char_section<W: Write>(
-    out: &mut Counted<W>,
-    chunk: &mut Chunk,
-    chars: &[CharMetric],
-) -> io::Result<()>
-    ensures { Puts W.contents (outlet out.old chunk.old) (outlet out.new chunk.new)
+fn put_char_section<W: Write>(outlet: &mut Outlet<W>, chars: &[CharMetric]) -> io::Result<()>
+    ensures { Puts W.contents outlet.old outlet.new
         (line_text (codes "StartCharMetrics" ∷ decimal (length chars.now) ∷ [])
         ++ (flat_map (λ c. line_text (char_line c)) chars.now
         ++ line_text (codes "EndCharMetrics" ∷ []))) result }
 {
-    put_line(out, chunk, b"StartCharMetrics", &[Word::Count(chars.len())])?;
-    put_chars(out, chunk, chars)?;
-    put_line(out, chunk, b"EndCharMetrics", &[])
+    put_line(outlet, b"StartCharMetrics", &[Word::Count(chars.len())])?;
+    put_chars(outlet, chars)?;
+    put_line(outlet, b"EndCharMetrics", &[])
 }
 
 /// Puts the heights and the lines of the glyphs.
-fn put_glyphs<W: Write>(
-    out: &mut Counted<W>,
-    chunk: &mut Chunk,
-    chars: &[CharMetric],
-) -> io::Result<()>
-    ensures { Puts W.contents (outlet out.old chunk.old) (outlet out.new chunk.new)
+fn put_glyphs<W: Write>(outlet: &mut Outlet<W>, chars: &[CharMetric]) -> io::Result<()>
+    ensures { Puts W.contents outlet.old outlet.new
         (lines_text
         (value_lines (heights_of chars.now)
         ++ section (codes "StartCharMetrics") (codes "EndCharMetrics")
         (map char_line chars.now))) result }
 {
-    put_values(out, chunk, &heights(chars))?;
-    put_char_section(out, chunk, chars)
+    put_values(outlet, &heights(chars))?;
+    put_char_section(outlet, chars)
 }
 
 /// Puts the kerning data, where there is a pair.
-fn put_kerning<W: Write>(
-    out: &mut Counted<W>,
-    chunk: &mut Chunk,
-    pairs: &[KernPair],
-) -> io::Result<()>
-    ensures { Puts W.contents (outlet out.old chunk.old) (outlet out.new chunk.new)
-        (lines_text (kerning_lines pairs.now)) result }
+fn put_kerning<W: Write>(outlet: &mut Outlet<W>, pairs: &[KernPair]) -> io::Result<()>
+    ensures { Puts W.contents outlet.old outlet.new (lines_text (kerning_lines pairs.now)) result }
 {
     if pairs.is_empty() {
         return Ok(());
     }
-    put_line(out, chunk, b"StartKernData", &[])?;
-    put_section(out, chunk, b"StartKernPairs", b"EndKernPairs", pairs)?;
-    put_line(out, chunk, b"EndKernData", &[])
+    put_line(outlet, b"StartKernData", &[])?;
+    put_section(outlet, b"StartKernPairs", b"EndKernPairs", pairs)?;
+    put_line(outlet, b"EndKernData", &[])
 }
 
 /// Puts the composites, where there is one.
 fn put_composites<W: Write>(
-    out: &mut Counted<W>,
-    chunk: &mut Chunk,
+    outlet: &mut Outlet<W>,
     composites: &[CompositeMetric],
 ) -> io::Result<()>
-    ensures { Puts W.contents (outlet out.old chunk.old) (outlet out.new chunk.new)
+    ensures { Puts W.contents outlet.old outlet.new
         (lines_text (composite_lines composites.now)) result }
 {
     if composites.is_empty() {
         return Ok(());
     }
-    put_section(out, chunk, b"StartComposites", b"EndComposites", composites)
+    put_section(outlet, b"StartComposites", b"EndComposites", composites)
 }
 
-fn put_file<W: Write>(out: &mut Counted<W>, chunk: &mut Chunk, metrics: &Metrics) -> io::Result<()>
-    ensures { Puts W.contents (outlet out.old chunk.old) (outlet out.new chunk.new)
-        (afm metrics.now) result }
+fn put_file<W: Write>(outlet: &mut Outlet<W>, metrics: &Metrics) -> io::Result<()>
+    ensures { Puts W.contents outlet.old outlet.new (afm metrics.now) result }
 {
-    put_header(out, chunk, metrics)?;
-    put_glyphs(out, chunk, &metrics.chars)?;
-    put_kerning(out, chunk, &metrics.pairs)?;
-    put_composites(out, chunk, &metrics.composites)?;
-    put_line(out, chunk, b"EndFontMetrics", &[])
+    put_header(outlet, metrics)?;
+    put_glyphs(outlet, &metrics.chars)?;
+    put_kerning(outlet, &metrics.pairs)?;
+    put_composites(outlet, &metrics.composites)?;
+    put_line(outlet, b"EndFontMetrics", &[])
 }
 
 /// Writes the file by way of a chunk.
 fn send_file<W: Write>(out: &mut Counted<W>, metrics: &Metrics) -> io::Result<()>
     ensures { Writes W.contents out.old out.new (afm metrics.now) result }
 {
-    let mut chunk = Chunk::new();
-    put_file(out, &mut chunk, metrics)?;
-    chunk.send(out)
+    let mut outlet = Outlet::new(out);
+    put_file(&mut outlet, metrics)?;
+    outlet.send()
 }
 
 /// Writes the AFM file, at most 4,096 bytes a call of the writer. It takes no memory.

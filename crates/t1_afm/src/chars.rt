@@ -2,7 +2,7 @@
 ghost use Rattle.std.specs.Prelude.{◌≡◌, ◌≤◌, ◌<◌, ◌+◌, pos, [], ◌∷◌, ◌++◌, length, take, max};
 ghost use Rattle.std.specs.Prelude.{ℕ, codes, flat_map};
 ghost use Rattle.std.specs.Fmt.{signed_decimal};
-ghost use Rattle.t1_code.specs.Writing.{Puts, outlet};
+ghost use Rattle.t1_code.specs.Writing.{Puts};
 ghost use Rattle.t1_afm.specs.Afm.{char_line, code_number, line_text, rest_text, sides};
 
 use crate::bbox::BBox;
@@ -10,7 +10,7 @@ use crate::metrics::CharMetric;
 use crate::numbers::{ROOM, put_number, put_text};
 use crate::part::Part;
 use std::io::{self, Write};
-use t1_code::{Chunk, Counted, put_plain};
+use t1_code::Outlet;
 
 /// The most bytes that the line of a glyph takes beside its name, where its width is along x alone.
 const MOST: usize = 192;
@@ -102,21 +102,20 @@ fn fill(bytes: &mut [u8; ROOM], chars: &[CharMetric]) -> Filled
 
 /// Puts the lines that were filled in, or that of the first glyph where there was room for none.
 fn put_filled<W: Write>(
-    out: &mut Counted<W>,
-    chunk: &mut Chunk,
+    outlet: &mut Outlet<W>,
     lines: &[u8],
     count: usize,
     chars: &[CharMetric],
 ) -> io::Result<()>
     requires some { 0 < length chars.now }
     requires filled { lines.now ≡ flat_map (λ c. line_text (char_line c)) (take count chars.now) }
-    ensures { Puts W.contents (outlet out.old chunk.old) (outlet out.new chunk.new)
+    ensures { Puts W.contents outlet.old outlet.new
         (flat_map (λ c. line_text (char_line c)) (take (max count 1) chars.now)) result }
 {
     if count == 0 {
-        return chars[0].put(out, chunk);
+        return chars[0].put(outlet);
     }
-    put_plain(out, chunk, lines)
+    outlet.put(lines)
 }
 
 /// A count, but one where it is none.
@@ -132,12 +131,8 @@ fn at_least_one(count: usize) -> usize
 }
 
 /// Puts the lines of glyphs.
-pub(crate) fn put_chars<W: Write>(
-    out: &mut Counted<W>,
-    chunk: &mut Chunk,
-    chars: &[CharMetric],
-) -> io::Result<()>
-    ensures { Puts W.contents (outlet out.old chunk.old) (outlet out.new chunk.new)
+pub(crate) fn put_chars<W: Write>(outlet: &mut Outlet<W>, chars: &[CharMetric]) -> io::Result<()>
+    ensures { Puts W.contents outlet.old outlet.new
         (flat_map (λ c. line_text (char_line c)) chars.now) result }
 {
     let mut bytes = [0; ROOM];
@@ -145,7 +140,7 @@ pub(crate) fn put_chars<W: Write>(
     while at < chars.len() {
         let rest = chars.split_at(at).1;
         let filled = fill(&mut bytes, rest);
-        put_filled(out, chunk, bytes.split_at(filled.len).0, filled.count, rest)?;
+        put_filled(outlet, bytes.split_at(filled.len).0, filled.count, rest)?;
         at += at_least_one(filled.count);
     }
     Ok(())

@@ -2,7 +2,7 @@
 //! its values, and the text between each two of them.
 ghost use Rattle.std.specs.Prelude.{◌≡◌, [], ◌∷◌, flat_map, codes};
 ghost use Rattle.std.specs.Fmt.{signed_decimal};
-ghost use Rattle.t1_code.specs.Writing.{Puts, outlet};
+ghost use Rattle.t1_code.specs.Writing.{Puts};
 ghost use Rattle.t1_afm.specs.Afm.{line_text, lines_text, value_line, char_line};
 ghost use Rattle.t1_afm.specs.Afm.{pair_line, composite_line, sides, entries, code_number};
 ghost use Rattle.t1_afm.specs.Lines.{line_words, word_text, value_bytes};
@@ -12,7 +12,7 @@ use crate::line::{Word, put_line};
 use crate::metrics::{CharMetric, CompositeMetric, KernPair};
 use itoa::Buffer;
 use std::io::{self, Write};
-use t1_code::{Chunk, Counted, put_slices};
+use t1_code::Outlet;
 
 /// What stands in the file in lines of its own.
 pub(crate) trait Part {
@@ -20,22 +20,16 @@ pub(crate) trait Part {
 
     ghost text: { Self → List ℕ };
 
-    fn put<W: Write>(&self, out: &mut Counted<W>, chunk: &mut Chunk) -> io::Result<()>
-        ensures { Puts W.contents (outlet out.old chunk.old) (outlet out.new chunk.new)
-            (text self.now) result };
+    fn put<W: Write>(&self, outlet: &mut Outlet<W>) -> io::Result<()>
+        ensures { Puts W.contents outlet.old outlet.new (text self.now) result };
 }
 
 /// Puts parts, one after another.
-pub(crate) fn put_parts<W: Write, P: Part>(
-    out: &mut Counted<W>,
-    chunk: &mut Chunk,
-    parts: &[P],
-) -> io::Result<()>
-    ensures { Puts W.contents (outlet out.old chunk.old) (outlet out.new chunk.new)
-        (flat_map P.text parts.now) result }
+pub(crate) fn put_parts<W: Write, P: Part>(outlet: &mut Outlet<W>, parts: &[P]) -> io::Result<()>
+    ensures { Puts W.contents outlet.old outlet.new (flat_map P.text parts.now) result }
 {
     for part in parts {
-        part.put(out, chunk)?;
+        part.put(outlet)?;
     }
     Ok(())
 }
@@ -50,10 +44,10 @@ pub(crate) struct Value<'a> {
 impl Part for Value<'_> {
     ghost text = { λ v. lines_text (value_line (value_bytes v)) };
 
-    fn put<W: Write>(&self, out: &mut Counted<W>, chunk: &mut Chunk) -> io::Result<()> {
+    fn put<W: Write>(&self, outlet: &mut Outlet<W>) -> io::Result<()> {
         match self.value {
             None => Ok(()),
-            Some(value) => put_line(out, chunk, self.key, &[value]),
+            Some(value) => put_line(outlet, self.key, &[value]),
         }
     }
 }
@@ -138,11 +132,11 @@ impl<'a> CharMetric<'a> {
 impl Part for CharMetric<'_> {
     ghost text = { λ c. line_text (char_line c) };
 
-    fn put<W: Write>(&self, out: &mut Counted<W>, chunk: &mut Chunk) -> io::Result<()> {
+    fn put<W: Write>(&self, outlet: &mut Outlet<W>) -> io::Result<()> {
         if self.wy == 0 {
-            put_line(out, chunk, b"C", &self.words_of_one())
+            put_line(outlet, b"C", &self.words_of_one())
         } else {
-            put_line(out, chunk, b"C", &self.words_of_both())
+            put_line(outlet, b"C", &self.words_of_both())
         }
     }
 }
@@ -150,36 +144,32 @@ impl Part for CharMetric<'_> {
 impl Part for KernPair<'_> {
     ghost text = { λ p. line_text (pair_line p) };
 
-    fn put<W: Write>(&self, out: &mut Counted<W>, chunk: &mut Chunk) -> io::Result<()> {
+    fn put<W: Write>(&self, outlet: &mut Outlet<W>) -> io::Result<()> {
         let left = Word::Text(self.left.as_slice());
         let right = Word::Text(self.right.as_slice());
         let value = Word::Number(i64::from(self.value));
-        put_line(out, chunk, b"KPX", &[left, right, value])
+        put_line(outlet, b"KPX", &[left, right, value])
     }
 }
 
 impl Part for CompositeMetric<'_> {
     ghost text = { λ c. line_text (composite_line c) };
 
-    fn put<W: Write>(&self, out: &mut Counted<W>, chunk: &mut Chunk) -> io::Result<()> {
+    fn put<W: Write>(&self, outlet: &mut Outlet<W>) -> io::Result<()> {
         let mut dx = Buffer::new();
         let mut dy = Buffer::new();
-        put_slices(
-            out,
-            chunk,
-            &[
-                b"CC ",
-                self.name.as_slice(),
-                b" 2 ; PCC ",
-                self.base.as_slice(),
-                b" 0 0 ; PCC ",
-                self.accent.as_slice(),
-                b" ",
-                dx.format(self.dx).as_bytes(),
-                b" ",
-                dy.format(self.dy).as_bytes(),
-                b" ;\n",
-            ],
-        )
+        outlet.put_slices(&[
+            b"CC ",
+            self.name.as_slice(),
+            b" 2 ; PCC ",
+            self.base.as_slice(),
+            b" 0 0 ; PCC ",
+            self.accent.as_slice(),
+            b" ",
+            dx.format(self.dx).as_bytes(),
+            b" ",
+            dy.format(self.dy).as_bytes(),
+            b" ;\n",
+        ])
     }
 }

@@ -19,7 +19,6 @@ mod boxed;
 mod changed;
 pub mod laws;
 mod records;
-mod renewed;
 mod room;
 mod stale;
 mod users;
@@ -31,8 +30,7 @@ pub use changed::{
     remove_glyphs, remove_subr,
 };
 pub use records::{GlyphRecord, Names, NewRun, NewRuns, Records, Rerun, SubrRecord};
-pub use renewed::{renew, renew_by_name};
 pub use room::{Counts, count_joins, make_room, users_of_glyph, users_of_subr};
 pub use stale::found;
-pub use users::move_users;
+pub use users::{move_users, renew, renew_by_name};
 pub use uses::{joins_of, leaves_of};

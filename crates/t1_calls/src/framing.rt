@@ -5,8 +5,9 @@ ghost use Rattle.t1_calls.specs.Framing.{is_body, is_call};
 ghost use Rattle.t1_calls.specs.LineBytes.{is_line_byte};
 
 use std::alloc::{AllocError, Global};
-use t1_commands::{ends_body, takes_body};
+use t1_commands::ends_body;
 use t1_parts::push_line;
+use t1_session::takes_body;
 use t1_text::first_line;
 
 /// Whether a byte ends no line.

@@ -44,9 +44,10 @@ use crate::framing::{body_text, is_call};
 use crate::performing::answer_to;
 use std::alloc::AllocError;
 use t1_code::Counted;
-use t1_commands::{body_command, is_blank_line, line_command, put_answer, takes_body};
+use t1_commands::{body_command, is_blank_line, line_command, put_answer};
 use t1_frac::{Bytes, Refusal};
 use t1_pairs::read_pairs;
+use t1_session::takes_body;
 use t1_source::read_source;
 
 /// The text of an answer.

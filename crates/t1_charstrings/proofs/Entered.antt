@@ -42,7 +42,7 @@ use Rattle.t1_charstrings.specs.Entries.{KeptCharstring, encrypted}
 use Rattle.t1_charstrings.specs.Kept.{AreEncrypted, charstring_at}
 use Rattle.t1_font.specs.Lengths.{IsPrivateLen}
 use Rattle.t1_charstrings.specs.Lines.{kept_entry_line, kept_line, kept_lines_text}
-use Rattle.t1_charstrings.specs.Ready.{old_len, replaced_len}
+use Rattle.t1_charstrings.specs.Ready.{edited_len, new_len, old_len}
 use Rattle.t1_charstrings.specs.Sums.{AreEdited, has_key, item_at}
 use Rattle.t1_charstrings.proofs.Adding.{alone, text-both}
 use Rattle.t1_charstrings.proofs.Batches.{over-serves}
@@ -255,7 +255,7 @@ module _ (s : SourceParts) (c : Charstrings) (at : ℕ) (item : Item) (well : Is
   -- the length of the private text with it
   pub put_known : (keys : List Key) (fresh : Charstrings) → IsEditOf keys s (with_items s (slice_set s.items at item)) c
       → AreFresh (lead (with_items s (slice_set s.items at item))) keys (with_items s (slice_set s.items at item)) fresh → is_entry item ≡ true
-      → (n len : ℕ) → IsPrivateLen s n → file_check s ≡ Ok tt → len ≡ replaced_len n fresh c s at item
+      → (n len : ℕ) → IsPrivateLen s n → file_check s ≡ Ok tt → len ≡ edited_len n fresh c s (Some at) (Some item) None
       → IsPrivateLen (with_items s (slice_set s.items at item)) len
   put_known keys fresh edit are is n len known faultless len_is =
       let made = with_items s (slice_set s.items at item) in
@@ -274,7 +274,8 @@ module _ (s : SourceParts) (c : Charstrings) (at : ℕ) (item : Item) (well : Is
       let less = line-within c (operator s) s.items at within in
       let text = ap (λ (t : List ℕ). length t) (merged-line fresh c (operator s) item) in
       let sum : ((n - a) + b) + a ≡ n + b = omega (arith, all, less) in
-      let whole : len ≡ min ((n - a) + b) (2 ^ 64 - 1) = omega (arith, len_is, text, all, less, small) in
+      let lines : len ≡ min ((n - old_len c s at) + new_len fresh c s item) (2 ^ 64 - 1) = len_is in
+      let whole : len ≡ min ((n - a) + b) (2 ^ 64 - 1) = omega (arith, lines, text, all, less, small) in
       subst (IsPrivateLen made) (sym whole) (put_sum e.key entry s made c new edited at item within was e.has refl n ((n - a) + b) known small sum)
 
   -- no count is too long
@@ -305,9 +306,9 @@ module _ (s : SourceParts) (c : Charstrings) (at : ℕ) (well : IsWellFormed s) 
   left_front = (left-source (left (item_at s.items at) c is)).front
 
   -- the length of the private text without it
-  pub left_known : IsWellFormed (with_items s (remove s.items at)) → (n len : ℕ) → IsPrivateLen s n → file_check s ≡ Ok tt
-      → len ≡ n - old_len c s at → IsPrivateLen (with_items s (remove s.items at)) len
-  left_known well_made n len known faultless len_is =
+  pub left_known : IsWellFormed (with_items s (remove s.items at)) → (fresh : Charstrings) (n len : ℕ) → IsPrivateLen s n → file_check s ≡ Ok tt
+      → len ≡ edited_len n fresh c s (Some at) None None → IsPrivateLen (with_items s (remove s.items at)) len
+  left_known well_made fresh n len known faultless len_is =
       let made = with_items s (remove s.items at) in
       let e = left (item_at s.items at) c is in
       let small = len_small s n faultless known in
@@ -317,7 +318,8 @@ module _ (s : SourceParts) (c : Charstrings) (at : ℕ) (well : IsWellFormed s) 
       let all = len-of s c n (kept_text_is s c well kept) known small in
       let less = line-within c (operator s) s.items at within in
       let sum : (n - a) + a ≡ n = omega (arith, all, less) in
-      let whole : len ≡ min (n - a) (2 ^ 64 - 1) = omega (arith, len_is, all, less, small) in
+      let lines : len ≡ min ((n - old_len c s at) + 0) (2 ^ 64 - 1) = len_is in
+      let whole : len ≡ min (n - a) (2 ^ 64 - 1) = omega (arith, lines, all, less, small) in
       subst (IsPrivateLen made) (sym whole) (remove_sum e.key None s made c e.new edited at within e.has refl n (n - a) known small sum)
 
   -- no count is too long

@@ -1,5 +1,5 @@
 -- A source into which an entry is put, whose key no other has.
-use Rattle.std.proofs.Common.{◌≡◌, ◌+◌, ◌-◌, ◌^◌, ◌≤◌, min, max, ℕ, zero, suc, true, false, cond, List, [], ◌∷◌, ◌++◌, map, length, length-append, filter_map, refl, sym, ap, subst, ◌∙◌, Some, Ok, arith}
+use Rattle.std.proofs.Common.{◌≡◌, ◌+◌, ◌-◌, ◌^◌, ◌≤◌, min, max, ℕ, zero, suc, true, false, cond, List, [], ◌∷◌, ◌++◌, map, length, length-append, filter_map, refl, sym, ap, subst, ◌∙◌, Some, Ok, arith, None}
 use Rattle.std.specs.Prelude.{◌||◌, ◌&&◌, Err}
 use Rattle.std.specs.List.{insert, list_all, list_any}
 use Rattle.std.proofs.lemmas.List.Sums.{sum_by-cons}
@@ -27,7 +27,7 @@ use Rattle.t1_charstrings.specs.Kept.{AreEncrypted}
 use Rattle.t1_font.specs.Lengths.{IsPrivateLen}
 use Rattle.t1_charstrings.specs.Lines.{kept_line, kept_lines_text}
 use Rattle.t1_charstrings.specs.Raising.{is_raised_counted, raised_check, raised_text}
-use Rattle.t1_charstrings.specs.Ready.{inserted_len}
+use Rattle.t1_charstrings.specs.Ready.{edited_len, new_len}
 use Rattle.t1_charstrings.specs.Sums.{AreEdited, has_key, item_at, section_line, section_lines_text}
 use Rattle.t1_charstrings.proofs.Adding.{alone, text-both, Alone}
 use Rattle.t1_charstrings.proofs.Entered.{entered, len_small, merged, merged-line, over-sets, IsEntered}
@@ -185,7 +185,7 @@ module _ (s : SourceParts) (c : Charstrings) (at : ℕ) (item : Item) (well : Is
   -- the length of the private text with it
   pub insert_known : (keys : List Key) (fresh : Charstrings) → IsEditOf keys s (with_items s (insert s.items at item)) c
       → AreFresh (lead (with_items s (insert s.items at item))) keys (with_items s (insert s.items at item)) fresh → is_entry item ≡ true
-      → (n len : ℕ) → IsPrivateLen s n → file_check s ≡ Ok tt → len ≡ inserted_len n fresh c s item subrs glyphs
+      → (n len : ℕ) → IsPrivateLen s n → file_check s ≡ Ok tt → len ≡ edited_len n fresh c s None (Some item) (Some (record { subrs = subrs; glyphs = glyphs }))
       → IsPrivateLen (with_items s (insert s.items at item)) len
   insert_known keys fresh edit are is n len known faultless len_is =
       let made = with_items s (insert s.items at item) in
@@ -207,7 +207,9 @@ module _ (s : SourceParts) (c : Charstrings) (at : ℕ) (item : Item) (well : Is
       ap (λ is. length (section_lines_text is)) made-items
       ∙ ap (λ (t : List ℕ). length t) (raised-sections subrs glyphs s.items at item within (no-raised-section subrs glyphs e.key item e.has)) in
       let sum : (((n - t) + b) + r) + t ≡ (n + b) + r = omega (arith, all, less) in
-      let whole : len ≡ min (((n - t) + b) + r) (2 ^ 64 - 1) = omega (arith, len_is, text, sections, all, less, small) in
+      let lines : len ≡ min (min (((n - 0) - min t (2 ^ 64 - 1)) + new_len fresh c s item) (2 ^ 64 - 1)
+      + min (length (raised_text subrs glyphs s.items)) (2 ^ 64 - 1)) (2 ^ 64 - 1) = len_is in
+      let whole : len ≡ min (((n - t) + b) + r) (2 ^ 64 - 1) = omega (arith, lines, text, sections, all, less, small) in
       subst (IsPrivateLen made) (sym whole)
       (insert_sum e.key entry s made c new edited at item within (none-has edit.well e.key e.has) e.has refl
       n (((n - t) + b) + r) known small sum)

@@ -1,6 +1,7 @@
 pub mod Adding
 mod AloneLaws
 pub mod Batches
+pub mod ChangedLengths
 pub mod Entered
 pub mod Entering
 pub mod Filed

@@ -27,8 +27,8 @@ use Rattle.t1_charstrings.specs.Entries.{encrypted}
 use Rattle.t1_charstrings.specs.Kept.{charstring_at, AreEncrypted, Encrypt}
 use Rattle.t1_charstrings.specs.Lines.{kept_line, kept_lines_text}
 use Rattle.t1_charstrings.specs.Raising.{raised_check}
-use Rattle.t1_source.specs.declared.editing.change.Change.{Change}
-use Rattle.t1_source.specs.declared.editing.change.Change.TheVariants as changes
+use Rattle.t1_source.specs.declared.editing.Change.{Change}
+use Rattle.t1_source.specs.declared.editing.Change.TheVariants as changes
 use Rattle.t1_source.proofs.WellFormedSourceLaws.{raised_said}
 use Rattle.t1_charstrings.specs.Batch.{IsEditOf}
 use Rattle.t1_charstrings.specs.Prepared.{IsMadeOf, IsPreparedFor}

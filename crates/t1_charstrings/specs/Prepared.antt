@@ -1,7 +1,7 @@
 -- A source of which edits were prepared.
 use Rattle.std.specs.Prelude.{◌≡◌, ℕ, Ok, IfSome}
 use Rattle.t1_parts.specs.SourceParts.{SourceParts}
-use Rattle.t1_source.specs.declared.editing.change.Change.{Change}
+use Rattle.t1_source.specs.declared.editing.Change.{Change}
 use Rattle.t1_source.specs.Changes.{IsFor}
 use Rattle.t1_source.specs.EditedSource.{EditedParts}
 use Rattle.t1_font.specs.Assembly.{file_check}

@@ -1,12 +1,14 @@
 -- What is ready to be kept of a source that is about to be edited.
-use Rattle.std.specs.Prelude.{◌≡◌, ◌≤◌, ◌+◌, ◌-◌, ◌^◌, min, length, if◌then◌else◌, ℕ, None}
+use Rattle.std.specs.Prelude.{◌≡◌, ◌≤◌, ◌+◌, ◌-◌, ◌^◌, ◌∷◌, min, length, if◌then◌else◌, ℕ, None, Option, Some}
 use Rattle.std.specs.Option.{option_or}
 use Rattle.indexmap.specs.IndexMap.{spare}
 use Rattle.t1_parts.specs.declared.item.Item.{Item}
+use Rattle.t1_parts.specs.Counts.{glyphs_needed, subrs_needed}
 use Rattle.t1_parts.specs.Operator.{operator}
 use Rattle.t1_parts.specs.SourceParts.{SourceParts}
 use Rattle.t1_run.specs.Run.{Key}
 use Rattle.t1_charstrings.specs.declared.entries.Charstrings.{Charstrings}
+use Rattle.t1_charstrings.specs.declared.raising.Needed.{Needed}
 use Rattle.t1_charstrings.specs.declared.settling.ReadyCharstrings.{ReadyCharstrings}
 use Rattle.t1_charstrings.specs.declared.settling.ReadyCharstrings.TheVariants as ready
 use Rattle.t1_charstrings.specs.declared.settling.ReadyLines.{ReadyLines}
@@ -45,13 +47,28 @@ old_len c s at = min (length (kept_line c (operator s) (item_at s.items at))) (2
 abbrev pub new_len : Charstrings → Charstrings → SourceParts → Item → ℕ
 new_len fresh c s item = min (length (item_line_by (fresh_over fresh c) (operator s) item)) (2 ^ 64 - 1)
 
--- word: how long the private text is with an entry in the place of another: its line more, and the old one less
-abbrev pub replaced_len : ℕ → Charstrings → Charstrings → SourceParts → ℕ → Item → ℕ
-replaced_len n fresh c s at item = min ((n - old_len c s at) + new_len fresh c s item) (2 ^ 64 - 1)
+-- word: how long the line of the item is that a change takes out, up to 2^64 - 1; 0 where it takes none out
+abbrev pub taken_len : Charstrings → SourceParts → Option ℕ → ℕ
+taken_len c s (Some at) = old_len c s at
+taken_len c s None = 0
 
--- word: how long the private text is with an entry put in: its line more, and raised section lines in the place of
--- the old ones
-abbrev pub inserted_len : ℕ → Charstrings → Charstrings → SourceParts → Item → ℕ → ℕ → ℕ
-inserted_len n fresh c s item subrs glyphs =
-    min (min ((n - min (length (section_lines_text s.items)) (2 ^ 64 - 1)) + new_len fresh c s item) (2 ^ 64 - 1)
-    + min (length (raised_text subrs glyphs s.items)) (2 ^ 64 - 1)) (2 ^ 64 - 1)
+-- word: how long the line of the item is that a change puts in, up to 2^64 - 1; 0 where it puts none in
+abbrev pub put_len : Charstrings → Charstrings → SourceParts → Option Item → ℕ
+put_len fresh c s (Some item) = new_len fresh c s item
+put_len fresh c s None = 0
+
+-- word: how long the private text is after a change: what it takes out less, what it puts in more; and where more is needed
+-- of the section lines, the raised ones in the place of the old ones
+abbrev pub edited_len : ℕ → Charstrings → Charstrings → SourceParts → Option ℕ → Option Item → Option Needed → ℕ
+edited_len n fresh c s taken put None = min ((n - taken_len c s taken) + put_len fresh c s put) (2 ^ 64 - 1)
+edited_len n fresh c s taken put (Some needed) =
+    min (min (((n - taken_len c s taken) - min (length (section_lines_text s.items)) (2 ^ 64 - 1)) + put_len fresh c s put) (2 ^ 64 - 1)
+    + min (length (raised_text needed.subrs needed.glyphs s.items)) (2 ^ 64 - 1)) (2 ^ 64 - 1)
+
+-- word: what the items need of the section lines after a change, where it puts in an item and takes none out; nothing more
+-- than they have after another one
+abbrev pub IsNeeded : Option ℕ → Option Item → SourceParts → Option Needed → Type 0
+IsNeeded None (Some item) s (Some needed) = (needed.subrs ≡ subrs_needed (item ∷ s.items)) × (needed.glyphs ≡ glyphs_needed (item ∷ s.items))
+IsNeeded None (Some item) s None = ⊥
+IsNeeded None None s needed = needed ≡ None
+IsNeeded (Some at) put s needed = needed ≡ None

@@ -41,7 +41,7 @@ fn len_anew(
 /// The charstrings of a source that edits make, all encrypted anew, and the length of its private
 /// text; or the first fault of the source. Nothing of a source is changed or copied. Settled, the
 /// charstrings take the place of any that were kept.
-pub(crate) fn prepare_anew(alloc: Global, made: &EditedSource) -> Result<ReadyLines, Refusal>
+pub fn prepare_anew(alloc: Global, made: &EditedSource) -> Result<ReadyLines, Refusal>
     ensures judged { Gives (λ _. tt) result (file_check (made_of made.now)) }
     ensures ready { (c : Charstrings) → IfOk result (IsReadyLines (made_of made.now) c) }
 {

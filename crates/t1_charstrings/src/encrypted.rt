@@ -1,5 +1,7 @@
-//! The charstrings of a source, encrypted.
-ghost use Rattle.std.specs.Prelude.{◌≡◌, ◌==◌, ℕ, List, None, IfOk, OnOk, if◌then◌else◌};
+//! The charstrings of a source and of fresh entries, encrypted.
+
+ghost use Rattle.std.specs.Prelude.{◌≡◌, ◌==◌, ℕ, List, None, IfOk, OnOk, if◌then◌else◌, Some};
+ghost use Rattle.std.specs.Prelude.{OnErr};
 ghost use Rattle.std.specs.Option.{option_map, option_or};
 ghost use Rattle.std.specs.Result.{result_ok};
 ghost use Rattle.std.specs.Str.{bytes_eq};
@@ -12,13 +14,13 @@ ghost use Rattle.t1_font.specs.Bodies.{bodies, bodies_check, body_check, glyph_i
 ghost use Rattle.t1_font.specs.Bodies.{words_check};
 ghost use Rattle.t1_charstrings.specs.Entries.{encrypted, glyph_charstring, subr_charstring};
 ghost use Rattle.t1_charstrings.specs.Kept.{charstring_at, AreEncrypted};
+ghost use Rattle.t1_charstrings.specs.Changed.{AreSameCharstrings, Sets};
 
-use crate::entries::{Charstrings, Entry, no_charstrings};
+use crate::entries::{Charstrings, Entry, insert_glyph, insert_subr, no_charstrings};
 use indexmap::IndexMap;
 use itoa::Buffer;
 use std::alloc::{AllocError, Global};
-use t1_code::{Body, encrypted_charstring};
-use t1_font::{compiled_glyph, compiled_subr};
+use t1_code::{Body, compiled_glyph, compiled_subr, encrypted_charstring};
 use t1_frac::{Refusal, Words};
 use t1_parts::ItemsIter;
 use t1_source::{Item, Source};
@@ -53,6 +55,42 @@ pub fn encrypted_glyph(
 {
     let charstring = encrypted_charstring(alloc, lead, body.commands())?;
     Entry::new(alloc, b"/", name, &charstring)
+}
+
+/// Keeps a Subr, encrypted with so many leading bytes, in the place of what was kept of it. Where
+/// memory runs out all stays as it was.
+pub fn put_fresh_subr(
+    alloc: Global,
+    lead: u8,
+    fresh: &mut Charstrings,
+    number: u16,
+    body: &Body,
+) -> Result<(), AllocError>
+    ensures sets { OnOk result
+        (Sets (Subr number) (Some (encrypted lead (Subr number) body.now)) fresh.old
+        fresh.new) }
+    ensures refused { OnErr result (AreSameCharstrings fresh.old fresh.new) }
+{
+    let entry = encrypted_subr(alloc, lead, number, body)?;
+    insert_subr(fresh, number, entry)
+}
+
+/// Keeps a glyph, encrypted with so many leading bytes, in the place of what was kept of it. Where
+/// memory runs out all stays as it was.
+pub fn put_fresh_glyph(
+    alloc: Global,
+    lead: u8,
+    fresh: &mut Charstrings,
+    name: &[u8],
+    body: &Body,
+) -> Result<(), AllocError>
+    ensures sets { OnOk result
+        (Sets (Glyph name.now) (Some (encrypted lead (Glyph name.now) body.now)) fresh.old
+        fresh.new) }
+    ensures refused { OnErr result (AreSameCharstrings fresh.old fresh.new) }
+{
+    let entry = encrypted_glyph(alloc, lead, name, body)?;
+    insert_glyph(fresh, Vec::from_slice(alloc, name)?, entry)
 }
 
 /// Adds a Subr, where there is none of its number.

@@ -1,22 +1,38 @@
-//! How long the private text is, and whether a part of the PFB file is too long.
-ghost use Rattle.std.specs.Prelude.{◌≡◌, ◌^◌, ◌-◌, ◌∷◌, ◌++◌, [], Some, decimal, min, length};
-ghost use Rattle.std.specs.Prelude.{option_copied};
+//! How long the private text is, and whether a part of the PFB file is too long: of a source, and
+//! of the one that edits make of it, whose charstrings are made ready here.
+ghost use Rattle.std.specs.Prelude.{◌≡◌, ◌^◌, ◌-◌, ◌∷◌, ◌++◌, ◌<◌, [], Some, Ok, Err, IfOk};
+ghost use Rattle.std.specs.Prelude.{MatchResult, decimal, min, length, option_copied, true, false};
 ghost use Rattle.t1_frac.specs.Ascii.{line_feed};
+ghost use Rattle.t1_frac.specs.Outcome.{Gives};
 ghost use Rattle.t1_code.specs.Pfb.{closing_text};
+ghost use Rattle.t1_parts.specs.Counts.{glyphs_needed};
 ghost use Rattle.t1_parts.specs.ItemRefs.{item_of};
+ghost use Rattle.t1_parts.specs.LenIV.{lead};
+ghost use Rattle.t1_source.specs.Changes.{IsFor, is_entry_changed, made_after, put_by, taken_by};
+ghost use Rattle.t1_source.specs.EditedSource.{made_of, may_set_lead};
 ghost use Rattle.t1_source.specs.WellFormed.{IsWellFormed};
-ghost use Rattle.t1_font.specs.Assembly.{length_check};
-ghost use Rattle.t1_charstrings.specs.Kept.{AreEncrypted};
+ghost use Rattle.t1_font.specs.Assembly.{file_check, length_check};
 ghost use Rattle.t1_font.specs.Lengths.{IsPrivateLen};
+ghost use Rattle.t1_charstrings.specs.declared.settling.ReadyCharstrings.TheVariants as ready;
+ghost use Rattle.t1_charstrings.specs.Batch.{AreEdits, fresh_over, has_line, item_line_by};
+ghost use Rattle.t1_charstrings.specs.Changed.{AreSameCharstrings};
+ghost use Rattle.t1_charstrings.specs.Kept.{AreEncrypted};
 ghost use Rattle.t1_charstrings.specs.Lines.{kept_entry_line, kept_line, kept_lines_text};
+ghost use Rattle.t1_charstrings.specs.Prepared.{IsMadeOf, IsPreparedFor};
+ghost use Rattle.t1_charstrings.specs.Ready.{IsNeeded, IsReadyLines, edited_len, put_len};
+ghost use Rattle.t1_charstrings.specs.Ready.{taken_len};
 ghost use Rattle.t1_charstrings.specs.Sums.{section_line, section_lines_text};
 
-use crate::entries::{Charstrings, Entry};
+use crate::batch::len_of_batch;
+use crate::edited::EditedEntries;
+use crate::entries::{Charstrings, Entry, make_room};
+use crate::raising::{Needed, check_raised_sections, needed_with, raised_sections_len};
+use crate::settling::{ReadyCharstrings, ReadyLines};
 use itoa::Buffer;
 use t1_font::check_parts;
-use t1_frac::Fault;
+use t1_frac::{Fault, Refusal};
 use t1_parts::{ItemRef, Items};
-use t1_source::{Item, Source};
+use t1_source::{Change, EditedSource, Item, Source};
 
 /// How long a closing text is with the space before it.
 fn closing_len(closing: &[u8]) -> usize
@@ -137,4 +153,192 @@ pub fn check_length(source: &Source, private_len: usize) -> Result<(), Fault>
     ensures { result ≡ length_check source.now }
 {
     check_parts(source.clear(), private_len, source.tail())
+}
+
+/// Whether the charstring of an item's entry is among these.
+fn has_line(charstrings: &Charstrings, item: &ItemRef) -> bool
+    ensures { result ≡ has_line charstrings.now (item_of item.now) }
+{
+    match item {
+        ItemRef::Subr(number, _, _) => charstrings.subrs.contains_key(number),
+        ItemRef::Glyph(name, _, _) => charstrings.glyphs.contains_key(*name),
+        _ => false,
+    }
+}
+
+/// How long the line of an item is, up to 2^64 - 1: that of its fresh charstring, or else that of
+/// the old one.
+pub(crate) fn batch_line_len(
+    charstrings: &Charstrings,
+    fresh: &Charstrings,
+    operator: &[u8],
+    item: &ItemRef,
+) -> usize
+    ensures { result
+        ≡ min
+        (length
+        (item_line_by (fresh_over fresh.now charstrings.now) operator.now
+        (item_of item.now))) (2 ^ 64 - 1) }
+{
+    if has_line(fresh, item) {
+        return line_len(fresh, operator, item);
+    }
+    line_len(charstrings, operator, item)
+}
+
+/// How long the line of the item is that a change takes out, up to 2^64 - 1; 0 where it takes none
+/// out.
+fn taken_len(charstrings: &Charstrings, source: &Source, change: &Change) -> usize
+    requires { IsFor change.now source.now }
+    ensures { result ≡ taken_len charstrings.now source.now (taken_by change.now) }
+{
+    match change.taken() {
+        Some(at) => line_len(charstrings, source.operator(), &source.items().item(at)),
+        None => 0,
+    }
+}
+
+/// How long the line of the item is that a change puts in, by fresh charstrings over the old ones,
+/// up to 2^64 - 1; 0 where it puts none in.
+fn put_len(
+    charstrings: &Charstrings,
+    fresh: &Charstrings,
+    source: &Source,
+    change: &Change,
+) -> usize
+    ensures { result ≡ put_len fresh.now charstrings.now source.now (put_by change.now) }
+{
+    match change.put() {
+        Some(item) => batch_line_len(charstrings, fresh, source.operator(), &item.as_ref()),
+        None => 0,
+    }
+}
+
+/// What the items need of the section lines after a change, where it puts in an item and takes none
+/// out; after another one they need no more than they have.
+fn needed_after(source: &Source, change: &Change) -> Option<Needed>
+    requires { glyphs_needed source.now.items < 2 ^ 64 - 1 }
+    ensures { IsNeeded (taken_by change.now) (put_by change.now) source.now result }
+{
+    if let Some(_at) = change.taken() {
+        return None;
+    }
+    match change.put() {
+        Some(item) => Some(needed_with(source.items(), item)),
+        None => None,
+    }
+}
+
+/// How long the private text is after a change, up to 2^64 - 1. Where more is needed of the section
+/// lines, the items are gone through for these.
+fn edited_len(
+    charstrings: &Charstrings,
+    private_len: usize,
+    source: &Source,
+    change: &Change,
+    fresh: &Charstrings,
+    needed: &Option<Needed>,
+) -> usize
+    requires { IsFor change.now source.now }
+    ensures { result
+        ≡ edited_len private_len fresh.now charstrings.now source.now (taken_by change.now)
+        (put_by change.now) needed.now }
+{
+    let left = private_len.saturating_sub(taken_len(charstrings, source, change));
+    let put = put_len(charstrings, fresh, source, change);
+    match needed {
+        None => left.saturating_add(put),
+        Some(needed) => {
+            let items = source.items();
+            left.saturating_sub(sections_len(items))
+                .saturating_add(put)
+                .saturating_add(raised_sections_len(items, needed))
+        }
+    }
+}
+
+/// How long the private text is after a change that sets no lenIV, or the first fault of the edited
+/// source. The length goes by that of the source before the edit, so that it costs no look at the
+/// other lines.
+fn len_changed(
+    charstrings: &Charstrings,
+    private_len: usize,
+    source: &Source,
+    change: &Change,
+    entries: &EditedEntries,
+) -> Result<usize, Fault>
+    requires prepared { IsPreparedFor change.now source.now private_len }
+    requires entry { is_entry_changed change.now source.now ≡ true }
+    requires edits { AreEdits source.now (made_after change.now source.now) charstrings.now
+        entries.now }
+    ensures judged { MatchResult result (λ _. file_check (made_after change.now source.now) ≡ Ok tt)
+        (λ fault. file_check (made_after change.now source.now) ≡ Err fault) }
+    ensures len { IfOk result (IsPrivateLen (made_after change.now source.now)) }
+{
+    if change.is_of_pairs() {
+        return Ok(private_len);
+    }
+    let needed = needed_after(source, change);
+    let fresh = &entries.fresh;
+    let len = edited_len(charstrings, private_len, source, change, fresh, &needed);
+    check_parts(change.clear_after(source), len, source.tail())?;
+    let Some(needed) = needed else {
+        return Ok(len);
+    };
+    check_raised_sections(source.items(), &needed)?;
+    Ok(len)
+}
+
+/// How long the private text is after edits that leave lenIV as it is, or the first fault of the
+/// source that they make.
+fn len_after(
+    charstrings: &Charstrings,
+    private_len: usize,
+    source: &Source,
+    made: &EditedSource,
+    entries: &EditedEntries,
+) -> Result<usize, Fault>
+    requires prepared { IsMadeOf source.now private_len made.now }
+    requires lead { may_set_lead source.now made.now ≡ false }
+    requires edits { AreEdits source.now (made_of made.now) charstrings.now entries.now }
+    ensures judged { MatchResult result (λ _. file_check (made_of made.now) ≡ Ok tt)
+        (λ fault. file_check (made_of made.now) ≡ Err fault) }
+    ensures len { IfOk result (IsPrivateLen (made_of made.now)) }
+    ensures lead { lead (made_of made.now) ≡ lead source.now }
+{
+    match made.change() {
+        Some(change) => len_changed(charstrings, private_len, source, change, entries),
+        None => len_of_batch(charstrings, source, made.source(), entries),
+    }
+}
+
+/// What edits that leave lenIV as it is make of the charstrings and of the length of the private
+/// text, or the first fault of the source that they make. Nothing is changed: there may be more
+/// room among the charstrings. The length after one edit goes by that of the source before it, so
+/// that it costs no look at the other lines; after a batch the items are gone through once.
+pub fn prepare_lines(
+    charstrings: &mut Charstrings,
+    private_len: usize,
+    source: &Source,
+    made: &EditedSource,
+    entries: EditedEntries,
+) -> Result<ReadyLines, Refusal>
+    requires prepared { IsMadeOf source.now private_len made.now }
+    requires lead { may_set_lead source.now made.now ≡ false }
+    requires edits { AreEdits source.now (made_of made.now) charstrings.old entries }
+    ensures same { AreSameCharstrings charstrings.old charstrings.new }
+    ensures judged { Gives (λ _. tt) result (file_check (made_of made.now)) }
+    ensures ready { IfOk result (IsReadyLines (made_of made.now) charstrings.new) }
+    ensures edited { IfOk result (λ lines. lines.charstrings ≡ ready.Edited entries) }
+{
+    let len = len_after(charstrings, private_len, source, made, &entries)?;
+    make_room(
+        charstrings,
+        entries.fresh.subrs.len(),
+        entries.fresh.glyphs.len(),
+    )?;
+    Ok(ReadyLines {
+        charstrings: ReadyCharstrings::Edited(entries),
+        len,
+    })
 }

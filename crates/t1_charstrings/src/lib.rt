@@ -10,21 +10,21 @@
 //! [`EditedEntries`]: those of the entries that were replaced or added; beside them stand the keys
 //! of those that are gone. With these [`prepare_lines`] makes ready what changes of the
 //! charstrings and of the length of the private text, or gives the first fault of the edited
-//! source, an `EditedSource` of `t1_source`; [`settle_lines`] puts it in its place, which can't
-//! fail. Where lenIV was edited all charstrings are encrypted anew; nothing of a source is copied.
+//! source, an `EditedSource` of `t1_source`; where lenIV may have been edited [`prepare_anew`] does
+//! so, and encrypts all charstrings anew. [`settle_lines`] puts it in its place, which can't fail.
+//! Nothing of a source is copied.
 //!
 //! All of it is for the crates above.
 //!
 //! What is proved: `charstrings_of`, the encrypted charstrings of a source (`AreEncrypted`), or the
 //! first fault of a body. `write_kept_file`: the same file as `t1_font`'s by them (`file_in`).
 //! `check_length`: F23 by the length of the private text (`length_check`), which `laws` give after
-//! an edit. `prepare_lines` judges the file of the edited source and makes ready what changes
-//! (`IsReadyLines`): the charstrings of the named entries alone, unless lenIV was set.
-//! `settle_lines` puts it in place.
+//! an edit. `prepare_lines` and `prepare_anew` judge the file of the edited source and make ready
+//! what changes (`IsReadyLines`): the one the charstrings of the named entries alone, where lenIV
+//! wasn't set, the other all of them. `settle_lines` puts it in place.
 
 mod anew;
 mod batch;
-mod changed;
 mod edited;
 mod encrypted;
 mod encrypted_items;
@@ -33,17 +33,18 @@ mod files;
 pub mod laws;
 mod lengths;
 mod lines;
-mod preparing;
 mod raising;
-mod replacing;
 mod settling;
 
-pub use batch::{batch_len, put_fresh_glyph, put_fresh_subr};
-pub use changed::{insert_glyph, insert_subr, make_room};
+pub use anew::prepare_anew;
+pub use batch::batch_len;
 pub use edited::EditedEntries;
-pub use encrypted::{charstrings_of, encrypted_glyph, encrypted_subr};
-pub use entries::{Charstrings, Entry, no_charstrings};
+pub use encrypted::{
+    charstrings_of, encrypted_glyph, encrypted_subr, put_fresh_glyph, put_fresh_subr,
+};
+pub use entries::{Charstrings, Entry, insert_glyph, insert_subr, make_room, no_charstrings};
 pub use files::write_kept_file;
-pub use lengths::{check_length, entry_line_len, line_len, private_len, sections_len};
-pub use preparing::prepare_lines;
+pub use lengths::{
+    check_length, entry_line_len, line_len, prepare_lines, private_len, sections_len,
+};
 pub use settling::{ReadyCharstrings, ReadyLines, settle_lines};

@@ -1,17 +1,23 @@
-//! What edits make of the charstrings, made ready and put in its place.
-ghost use Rattle.std.specs.Prelude.{◌≡◌, IfOk};
+//! What edits make of the charstrings, made ready, and put in its place: charstrings are taken out
+//! and others put in.
+
+ghost use Rattle.std.specs.Prelude.{◌≡◌, ◌≤◌, ℕ, List, None, if◌then◌else◌, length};
+ghost use Rattle.std.specs.Option.{option_or};
+ghost use Rattle.indexmap.specs.IndexMap.{spare};
 ghost use Rattle.t1_parts.specs.SourceParts.{SourceParts};
-ghost use Rattle.t1_charstrings.specs.declared.settling.ReadyCharstrings.TheVariants as ready;
-ghost use Rattle.t1_charstrings.specs.Changed.{AreSameCharstrings};
-ghost use Rattle.t1_charstrings.specs.Kept.{AreEncrypted};
+ghost use Rattle.t1_run.specs.Run.{Key};
 ghost use Rattle.t1_font.specs.Lengths.{IsPrivateLen};
+ghost use Rattle.t1_font.specs.OwnedKeys.{key_of};
+ghost use Rattle.t1_charstrings.specs.Batch.{is_gone, fresh_over};
+ghost use Rattle.t1_charstrings.specs.Changed.{Sets};
+ghost use Rattle.t1_charstrings.specs.Entries.{glyph_charstring, subr_charstring};
+ghost use Rattle.t1_charstrings.specs.Kept.{AreEncrypted, charstring_at};
 ghost use Rattle.t1_charstrings.specs.Ready.{HasCharstringRoom, IsReadyLines, SettlesTo};
 
-use crate::batch::{put_in, take_out};
-use crate::changed::make_room;
 use crate::edited::EditedEntries;
-use crate::entries::Charstrings;
-use std::alloc::AllocError;
+use crate::entries::{Charstrings, Entry, insert_glyph, insert_subr};
+use indexmap::IndexMap;
+use t1_font::OwnedKey;
 
 /// What edits make of the charstrings.
 #[derive(Drop)]
@@ -29,26 +35,76 @@ pub struct ReadyLines {
     pub len: usize,
 }
 
-/// What is ready of edited entries, with room for their charstrings.
-pub(crate) fn ready_entries(
-    charstrings: &mut Charstrings,
-    entries: EditedEntries,
-    len: usize,
-) -> Result<ReadyLines, AllocError>
-    ensures same { AreSameCharstrings charstrings.old charstrings.new }
-    ensures ready { IfOk result
-        (λ lines. lines ≡ record { charstrings = ready.Edited entries; len = len }) }
-    ensures room { IfOk result (λ lines. HasCharstringRoom lines.charstrings charstrings.new) }
+/// Takes the charstring of an entry out.
+fn take_one_out(charstrings: &mut Charstrings, gone: &OwnedKey)
+    ensures sets { Sets (key_of gone.now) None charstrings.old charstrings.new }
+    ensures room { (spare charstrings.old.subrs ≤ spare charstrings.new.subrs)
+        × (spare charstrings.old.glyphs ≤ spare charstrings.new.glyphs) }
 {
-    make_room(
-        charstrings,
-        entries.fresh.subrs.len(),
-        entries.fresh.glyphs.len(),
-    )?;
-    Ok(ReadyLines {
-        charstrings: ReadyCharstrings::Edited(entries),
-        len,
-    })
+    match gone {
+        OwnedKey::Subr(number) => {
+            charstrings.subrs.swap_remove(number);
+        }
+        OwnedKey::Glyph(name) => {
+            charstrings.glyphs.swap_remove(name.as_slice());
+        }
+    }
+}
+
+/// Takes the charstrings of entries out. It takes no memory and can't fail.
+fn take_out(charstrings: &mut Charstrings, gone: &[OwnedKey])
+    ensures kept { (k : Key)
+        → charstring_at charstrings.new k
+        ≡ (if is_gone gone.now k then None else charstring_at charstrings.old k) }
+    ensures room { (spare charstrings.old.subrs ≤ spare charstrings.new.subrs)
+        × (spare charstrings.old.glyphs ≤ spare charstrings.new.glyphs) }
+{
+    for entry in gone {
+        take_one_out(charstrings, entry);
+    }
+}
+
+/// Puts the charstrings of Subrs in, in room that was made.
+fn put_subrs(charstrings: &mut Charstrings, fresh: IndexMap<u16, Entry>)
+    ensures subrs { length fresh.entries ≤ spare charstrings.old.subrs
+        → (n : ℕ)
+        → subr_charstring charstrings.new.subrs.entries n
+        ≡ option_or (subr_charstring fresh.entries n)
+        (subr_charstring charstrings.old.subrs.entries n) }
+    ensures glyphs { charstrings.new.glyphs ≡ charstrings.old.glyphs }
+{
+    let mut left = fresh;
+    while let Some((number, entry)) = left.pop() {
+        let _put = insert_subr(charstrings, number, entry);
+    }
+}
+
+/// Puts the charstrings of glyphs in, in room that was made.
+fn put_glyphs(charstrings: &mut Charstrings, fresh: IndexMap<Vec<u8>, Entry>)
+    ensures glyphs { length fresh.entries ≤ spare charstrings.old.glyphs
+        → (g : List ℕ)
+        → glyph_charstring charstrings.new.glyphs.entries g
+        ≡ option_or (glyph_charstring fresh.entries g)
+        (glyph_charstring charstrings.old.glyphs.entries g) }
+    ensures subrs { charstrings.new.subrs ≡ charstrings.old.subrs }
+{
+    let mut left = fresh;
+    while let Some((name, entry)) = left.pop() {
+        let _put = insert_glyph(charstrings, name, entry);
+    }
+}
+
+/// Puts charstrings in, each in the place of what was kept of its entry. In room that was made it
+/// takes no memory and can't fail.
+fn put_in(charstrings: &mut Charstrings, fresh: Charstrings)
+    ensures { length fresh.subrs.entries ≤ spare charstrings.old.subrs
+        → length fresh.glyphs.entries ≤ spare charstrings.old.glyphs
+        → (k : Key)
+        → charstring_at charstrings.new k ≡ fresh_over fresh charstrings.old k }
+{
+    let Charstrings { subrs, glyphs } = fresh;
+    put_subrs(charstrings, subrs);
+    put_glyphs(charstrings, glyphs);
 }
 
 /// Puts the charstrings that are ready in their place.

@@ -1,7 +1,8 @@
 -- A text that goes out changed, part by part, by what went before.
 use Rattle.std.proofs.Common.{◌≡◌, ℕ, ◌+◌, ◌<◌, List, [], ◌++◌, length, get_or, drop, refl, sym, ◌∙◌, append-nil, Option}
 use Rattle.std.specs.List.{flat_map}
-use Rattle.t1_code.specs.Writing.{Outlet, Passes, Stops}
+use Rattle.t1_code.specs.declared.outlet.Outlet.{Outlet}
+use Rattle.t1_code.specs.Writing.{Passes, Stops}
 use Rattle.t1_code.proofs.Encrypting.{flat_map-drop}
 use Rattle.t1_code.proofs.Writing.{passing, Written, Written-none, Written-step, Written-fails, Written-all}
 

@@ -4,7 +4,8 @@ use Rattle.std.proofs.lemmas.Bool.{cases_Bool, eqb-true, eqb-false}
 use Rattle.std.specs.List.{flat_map, onto_first}
 use Rattle.t1_code.specs.Pfb.{segment, segment_head, segments}
 use Rattle.t1_code.specs.Segments.{Segmenting, head_due, segment_opened, past, in_segments, segmenting_after}
-use Rattle.t1_code.specs.Writing.{Outlet, Passes, Stops}
+use Rattle.t1_code.specs.Writing.{Passes, Stops}
+use Rattle.t1_code.specs.declared.outlet.Outlet.{Outlet}
 use Rattle.t1_code.proofs.Blocks.{blocks_from, blocks_in_turn}
 use Rattle.t1_code.proofs.Carrying.{IsChange, Carried, Carried-step, Carried-fails, Carried-breaks}
 use Rattle.t1_code.proofs.Writing.{passing}

@@ -1,15 +1,17 @@
 -- One write after another.
-use Rattle.std.proofs.Common.{◌≡◌, ℕ, ◌≤◌, true, nat_eq, List, [], ◌∷◌, ◌++◌, length, Option, None, Some, take, drop, refl, sym, ap, ◌∙◌, append_assoc, append-nil, subst, Result, Ok, Err, arith}
+use Rattle.std.proofs.Common.{◌≡◌, ℕ, ◌≤◌, true, nat_eq, List, [], ◌∷◌, ◌++◌, length, Option, None, Some, take, drop, refl, sym, ap, ◌∙◌, append_assoc, append-nil, subst, MutBor, Result, Ok, Err, arith}
 use Rattle.std.proofs.lemmas.Bool.{eqb-true}
 use Rattle.std.specs.Result.{MatchResult, OnOk}
 use Rattle.std.proofs.lemmas.List.{take-append-drop, take-take}
 use Rattle.std.proofs.KnownBytes.{Appends-trans, Appends-nil}
 use Rattle.std.specs.Io.KnownBytes.{Appends, Keeps}
 use Rattle.t1_frac.specs.declared.fault.Fault.{Fault}
+use Rattle.t1_code.specs.declared.outlet.Outlet.{Outlet}
+use Rattle.t1_code.specs.declared.parts.OutError.{OutError}
 use Rattle.t1_code.specs.declared.parts.OutError.TheVariants as out
 use Rattle.t1_code.specs.Parts.{PassesFile, Prints}
 use Rattle.t1_code.specs.Counted.{Tally, WritesAll, WritesFront, one_more}
-use Rattle.t1_code.specs.Writing.{Outlet, outlet, Passes, Stops, Puts, Writes}
+use Rattle.t1_code.specs.Writing.{Passes, Stops, Puts, Writes}
 
 -- where a text has no byte
 pub nothing_left : (rest : List ℕ) → nat_eq (length rest) 0 ≡ true → rest ≡ []
@@ -55,23 +57,29 @@ module _ {W : Type 0} (contents : W → Option (List ℕ)) where
   writing = record { none = WritesAll-nil; join = WritesAll-append; fails = WritesFront-append; longer = WritesFront-longer }
 
   Passes-nil : (a : Outlet W) → Passes contents a a []
-  Passes-nil a = record { sent = []; parts = append-nil a.waiting; writes = WritesAll-nil a.tally }
+  Passes-nil a = record { same = refl; sent = []; parts = append-nil a.chunk; writes = WritesAll-nil a.out.now }
 
   Passes-append : (a b c : Outlet W) (xs ys : List ℕ) → Passes contents a b xs → Passes contents b c ys → Passes contents a c (xs ++ ys)
   Passes-append a b c xs ys p q = record {
+    same = q.same ∙ p.same;
     sent = p.sent ++ q.sent;
-    parts = sym (append_assoc a.waiting xs ys) ∙ ap (λ l. l ++ ys) p.parts ∙ append_assoc p.sent b.waiting ys ∙ ap (λ l. p.sent ++ l) q.parts ∙ sym (append_assoc p.sent q.sent c.waiting);
-    writes = WritesAll-append a.tally b.tally c.tally p.sent q.sent p.writes q.writes;
+    parts = sym (append_assoc a.chunk xs ys) ∙ ap (λ l. l ++ ys) p.parts ∙ append_assoc p.sent b.chunk ys ∙ ap (λ l. p.sent ++ l) q.parts ∙ sym (append_assoc p.sent q.sent c.chunk);
+    writes = WritesAll-append a.out.now b.out.now c.out.now p.sent q.sent p.writes q.writes;
   }
 
   Stops-append : (a b c : Outlet W) (xs ys : List ℕ) → Passes contents a b xs → Stops contents b c ys → Stops contents a c (xs ++ ys)
   Stops-append a b c xs ys p q =
-      let same : p.sent ++ (b.waiting ++ ys) ≡ a.waiting ++ (xs ++ ys) = sym (append_assoc p.sent b.waiting ys) ∙ ap (λ l. l ++ ys) (sym p.parts) ∙ append_assoc a.waiting xs ys in
-      subst (WritesFront contents a.tally c.tally) same (WritesFront-append a.tally b.tally c.tally p.sent (b.waiting ++ ys) p.writes q)
+      let texts : p.sent ++ (b.chunk ++ ys) ≡ a.chunk ++ (xs ++ ys) = sym (append_assoc p.sent b.chunk ys) ∙ ap (λ l. l ++ ys) (sym p.parts) ∙ append_assoc a.chunk xs ys in
+      record {
+        same = q.same ∙ p.same;
+        writes = subst (WritesFront contents a.out.now c.out.now) texts (WritesFront-append a.out.now b.out.now c.out.now p.sent (b.chunk ++ ys) p.writes q.writes);
+      }
 
   Stops-longer : (a b : Outlet W) (xs ys : List ℕ) → Stops contents a b xs → Stops contents a b (xs ++ ys)
-  Stops-longer a b xs ys p =
-      subst (WritesFront contents a.tally b.tally) (append_assoc a.waiting xs ys) (WritesFront-longer a.tally b.tally (a.waiting ++ xs) ys p)
+  Stops-longer a b xs ys p = record {
+    same = p.same;
+    writes = subst (WritesFront contents a.out.now b.out.now) (append_assoc a.chunk xs ys) (WritesFront-longer a.out.now b.out.now (a.chunk ++ xs) ys p.writes);
+  }
 
   -- by way of a chunk that waits
   pub passing : IsWriting (Passes contents) (Stops contents)
@@ -133,37 +141,54 @@ Written-broken contents start old new bytes rest p keeps failures turns =
       none (Some x) (Some y) h = h ∙ sym (append-nil x)
 
 module _ {W : Type 0} (contents : W → Option (List ℕ)) where
-  -- at the end what waits goes out too, and its call's result is handed on
-  pub Puts-sent : {T E : Type 0} (r : Result T E) (old : Tally W) (b : Outlet W) (new : Tally W) (bytes : List ℕ) → Passes contents (outlet old []) b bytes
-      → Writes contents b.tally new b.waiting r → Writes contents old new bytes r
-  Puts-sent (Ok x) old b new bytes p q = subst (WritesAll contents old new) (sym p.parts) (WritesAll-append contents old b.tally new p.sent b.waiting p.writes q)
-  Puts-sent (Err e) old b new bytes p q = subst (WritesFront contents old new) (sym p.parts) (WritesFront-append contents old b.tally new p.sent b.waiting p.writes q)
-
-  -- what waited goes out, and nothing waits
-  pub Puts-emptied : {T E : Type 0} (r : Result T E) (old new : Tally W) (waiting left : List ℕ) → Writes contents old new waiting r → OnOk r (left ≡ [])
-      → Puts contents (outlet old waiting) (outlet new left) [] r
-  Puts-emptied (Ok x) old new waiting left p e = record { sent = waiting; parts = ap (λ l. waiting ++ l) (sym e); writes = p }
-  Puts-emptied (Err x) old new waiting left p e = rw append-nil p
-
   -- bytes that the chunk takes wait there
-  pub kept_passes : (tally : Tally W) (waiting kept bytes : List ℕ) → kept ≡ waiting ++ bytes → Passes contents (outlet tally waiting) (outlet tally kept) bytes
-  kept_passes tally waiting kept bytes is = record { sent = []; parts = sym is; writes = (writing contents).none tally }
+  kept_passes : (old new : Outlet W) (bytes : List ℕ) → new.out ≡ old.out → new.chunk ≡ old.chunk ++ bytes → Passes contents old new bytes
+  kept_passes old new bytes out kept = record {
+    same = ap (λ r. r.ghost_name) out;
+    sent = [];
+    parts = sym kept;
+    writes = subst (λ t. WritesAll contents old.out.now t []) (ap (λ r. r.now) (sym out)) ((writing contents).none old.out.now);
+  }
 
   -- the front of the rest waits too, after room was made for it
-  pub Written-kept : (start old : Outlet W) (tally : Tally W) (waiting kept bytes rest front after : List ℕ) → Written (passing contents) start old bytes rest → rest ≡ front ++ after
-      → Passes contents old (outlet tally waiting) [] → kept ≡ waiting ++ front → Written (passing contents) start (outlet tally kept) bytes after
-  Written-kept start old tally waiting kept bytes rest front after p e q is =
-      let keeps : Passes contents (outlet tally waiting) (outlet tally (waiting ++ front)) front = record { sent = []; parts = refl; writes = (writing contents).none tally } in
-      rw is (Written-step (passing contents) start old (outlet tally (waiting ++ front)) bytes front after (rw e at p)
-      ((passing contents).join old (outlet tally waiting) (outlet tally (waiting ++ front)) [] front q keeps))
+  pub Written-kept : (start old roomy new : Outlet W) (bytes rest front after : List ℕ) → Written (passing contents) start old bytes rest → rest ≡ front ++ after
+      → Passes contents old roomy [] → new.out ≡ roomy.out → new.chunk ≡ roomy.chunk ++ front → Written (passing contents) start new bytes after
+  Written-kept start old roomy new bytes rest front after p e q out kept =
+      Written-step (passing contents) start old new bytes front after (rw e at p) ((passing contents).join old roomy new [] front q (kept_passes roomy new front out kept))
 
--- a file that passed on, and the last call, which sends what waits
-pub File-unsent : {W T : Type 0} (contents : W → Option (List ℕ)) (old : Tally W) (b : Outlet W) (new : Tally W) (file : Result (List ℕ) Fault) (done : T)
-    → PassesFile contents (outlet old []) b file (Ok done) → WritesFront contents b.tally new b.waiting → Prints {T = Unit {0}} contents old new file (Err out.Write)
-File-unsent contents old b new file done p f =
-    (p.0, p.1, subst (WritesFront contents old new) (sym p.2.parts) (WritesFront-append contents old b.tally new p.2.sent b.waiting p.2.writes f))
+  -- a call of a new outlet fails: what the writer behind it took
+  pub outlet_fails : (lent : MutBor (Tally W)) (a b : Outlet W) (last : Tally W) (bytes : List ℕ) → a.out ≡ lent → a.chunk ≡ [] → Stops contents a b bytes
+      → (lent.ghost_name ≡ b.out.ghost_name → last ≡ b.out.now) → WritesFront contents lent.now last bytes
+  outlet_fails lent a b last bytes made none p back =
+      let returned : last ≡ b.out.now = back (sym (p.same ∙ ap (λ r. r.ghost_name) made)) in
+      rw (sym made, returned) (subst (λ l. WritesFront contents a.out.now b.out.now (l ++ bytes)) none p.writes)
 
-pub File-sent : {W T : Type 0} (contents : W → Option (List ℕ)) (old : Tally W) (b : Outlet W) (new : Tally W) (file : Result (List ℕ) Fault) (done : T)
-    → PassesFile contents (outlet old []) b file (Ok done) → WritesAll contents b.tally new b.waiting → Prints {T = Unit {0}} contents old new file (Ok tt)
-File-sent contents old b new file done p q =
-    (p.0, p.1, subst (WritesAll contents old new) (sym p.2.parts) (WritesAll-append contents old b.tally new p.2.sent b.waiting p.2.writes q))
+  -- a new outlet passes bytes on and sends what waits: what the writer behind it took
+  pub outlet_sent : {T E : Type 0} (r : Result T E) (lent : MutBor (Tally W)) (a b c : Outlet W) (last : Tally W) (bytes : List ℕ) → a.out ≡ lent → a.chunk ≡ [] → Passes contents a b bytes
+      → Puts contents b c [] r → OnOk r (c.chunk ≡ []) → (lent.ghost_name ≡ c.out.ghost_name → last ≡ c.out.now) → Writes contents lent.now last bytes r
+  outlet_sent (Ok x) lent a b c last bytes made none p q empty back =
+      let all = (passing contents).join a b c bytes [] p q in
+      let texts : all.sent ≡ bytes = sym (append-nil all.sent) ∙ ap (λ l. all.sent ++ l) (sym empty) ∙ sym all.parts ∙ ap (λ l. l ++ (bytes ++ [])) none ∙ append-nil bytes in
+      let returned : last ≡ c.out.now = back (sym (all.same ∙ ap (λ r. r.ghost_name) made)) in
+      rw (sym made, returned) (subst (WritesAll contents a.out.now c.out.now) texts all.writes)
+  outlet_sent (Err e) lent a b c last bytes made none p q empty back =
+      outlet_fails lent a c last bytes made none (subst (Stops contents a c) (append-nil bytes) ((passing contents).fails a b c bytes [] p q)) back
+
+module _ {W : Type 0} (contents : W → Option (List ℕ)) (lent : MutBor (Tally W)) (a b : Outlet W) (file : Result (List ℕ) Fault) (made : a.out ≡ lent) (none : a.chunk ≡ []) where
+  -- a file that didn't pass, by way of a new outlet
+  pub file_fails : (error : OutError) (last : Tally W) → PassesFile {T = Unit {0}} contents a b file (Err error) → (lent.ghost_name ≡ b.out.ghost_name → last ≡ b.out.now)
+      → Prints {T = Unit {0}} contents lent.now last file (Err error)
+  file_fails out.Write last p back = (p.0, p.1, outlet_fails contents lent a b last p.0 made none p.2 back)
+  file_fails (out.Fault fault) last p back =
+      let same : b.out ≡ lent = ap (λ o. o.out) p.1 ∙ made in
+      (p.0, back (sym (ap (λ r. r.ghost_name) same)) ∙ ap (λ r. r.now) same)
+  file_fails out.Memory last p back = absurd p
+
+  -- a file that passed on, and the last call, which sends what waits
+  pub file_unsent : (c : Outlet W) (last : Tally W) → PassesFile {T = Unit {0}} contents a b file (Ok tt) → Stops contents b c [] → (lent.ghost_name ≡ c.out.ghost_name → last ≡ c.out.now)
+      → Prints {T = Unit {0}} contents lent.now last file (Err out.Write)
+  file_unsent c last p q back = (p.0, p.1, outlet_sent contents {T = Unit {0}} {E = Unit {0}} (Err tt) lent a b c last p.0 made none p.2 q tt back)
+
+  pub file_sent : (c : Outlet W) (last : Tally W) → PassesFile {T = Unit {0}} contents a b file (Ok tt) → Passes contents b c [] → c.chunk ≡ [] → (lent.ghost_name ≡ c.out.ghost_name → last ≡ c.out.now)
+      → Prints {T = Unit {0}} contents lent.now last file (Ok tt)
+  file_sent c last p q empty back = (p.0, p.1, outlet_sent contents {T = Unit {0}} {E = Unit {0}} (Ok tt) lent a b c last p.0 made none p.2 q empty back)

@@ -6,13 +6,14 @@ use Rattle.t1_frac.specs.declared.fault.Fault.{Fault}
 use Rattle.t1_frac.specs.declared.fault.Refusal.{Refusal}
 use Rattle.t1_frac.specs.declared.fault.Refusal.TheVariants as refusals
 use Rattle.t1_frac.specs.Outcome.{◌>>=◌}
+use Rattle.t1_code.specs.declared.outlet.Outlet.{Outlet}
 use Rattle.t1_code.specs.declared.parts.OutError.{OutError}
 use Rattle.t1_code.specs.declared.parts.OutError.TheVariants as out
 use Rattle.t1_code.specs.declared.parts.Parts.{Parts}
 use Rattle.t1_code.specs.declared.parts.Piece.{Piece}
 use Rattle.t1_code.specs.declared.parts.Piece.TheVariants.{Plain, Entry}
 use Rattle.t1_code.specs.Counted.{Tally, WritesAll, WritesFront}
-use Rattle.t1_code.specs.Writing.{Outlet, Passes, Stops}
+use Rattle.t1_code.specs.Writing.{Passes, Stops}
 use Rattle.t1_code.specs.Pfa.{pfa_of}
 use Rattle.t1_code.specs.Pfb.{entry_text, pfb_of}
 

@@ -1,5 +1,6 @@
 -- Calls that write, straight or through a chunk that waits.
 use Rattle.std.specs.Prelude.{◌≡◌, ℕ, ◌+◌, ◌-◌, ◌^◌, nat_lt, if◌then◌else◌, List, ◌++◌, Option, Result, is_ok, MatchResult}
+use Rattle.t1_code.specs.declared.outlet.Outlet.{Outlet}
 use Rattle.t1_code.specs.Counted.{Tally, one_more, WritesAll, WritesFront}
 
 -- word: a call that failed is counted
@@ -18,24 +19,17 @@ turns_after turns = if nat_lt turns max_turns then turns + 1 else turns
 abbrev pub Writes : {W T E : Type 0} → (W → Option (List ℕ)) → Tally W → Tally W → List ℕ → Result T E → Type 0
 Writes contents old new bytes result = MatchResult result (λ done. WritesAll contents old new bytes) (λ error. WritesFront contents old new bytes)
 
--- word: a writer, and the bytes that wait in front of it
-pub record Outlet (T : Type 0) : Type 0 where
-  pub tally : Tally T
-  pub waiting : List ℕ
-
--- word: a writer with bytes in front of it, of its two parts
-abbrev pub outlet : {T : Type 0} → Tally T → List ℕ → Outlet T
-outlet tally waiting = record { tally = tally; waiting = waiting }
-
--- word: the bytes went after those that waited, of which a beginning went out, and no call failed
+-- word: the bytes went after those that waited, of which a beginning went out to the same writer, and no call failed
 pub record Passes {W : Type 0} (contents : W → Option (List ℕ)) (old new : Outlet W) (bytes : List ℕ) : Type 0 where
+  pub same : new.out.ghost_name ≡ old.out.ghost_name
   pub sent : List ℕ
-  pub parts : old.waiting ++ bytes ≡ sent ++ new.waiting
-  pub writes : WritesAll contents old.tally new.tally sent
+  pub parts : old.chunk ++ bytes ≡ sent ++ new.chunk
+  pub writes : WritesAll contents old.out.now new.out.now sent
 
--- word: a beginning of what waited and of the bytes went out, and then a call failed
-abbrev pub Stops : {W : Type 0} → (W → Option (List ℕ)) → Outlet W → Outlet W → List ℕ → Type 0
-Stops contents old new bytes = WritesFront contents old.tally new.tally (old.waiting ++ bytes)
+-- word: a beginning of what waited and of the bytes went out to the same writer, and then a call failed
+pub record Stops {W : Type 0} (contents : W → Option (List ℕ)) (old new : Outlet W) (bytes : List ℕ) : Type 0 where
+  pub same : new.out.ghost_name ≡ old.out.ghost_name
+  pub writes : WritesFront contents old.out.now new.out.now (old.chunk ++ bytes)
 
 -- word: a call that passes bytes on: they all passed at Ok, and at Err a beginning went out and a call failed
 abbrev pub Puts : {W T E : Type 0} → (W → Option (List ℕ)) → Outlet W → Outlet W → List ℕ → Result T E → Type 0

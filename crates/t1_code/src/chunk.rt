@@ -1,18 +1,16 @@
 //! Bytes on their way to a writer, which is handed a chunk of them at a time.
-ghost use Rattle.std.specs.Prelude.{◌≡◌, ◌<◌, ◌≤◌, ◌+◌, [], ◌++◌, true, false, length, take, OnOk};
+ghost use Rattle.std.specs.Prelude.{◌≡◌, ◌≤◌, ◌+◌, [], ◌++◌, true, false, length, take};
 ghost use Rattle.t1_code.specs.Cipher.{cipher as encrypted, key_after};
-ghost use Rattle.t1_code.specs.Writing.{Puts, Writes, outlet};
 ghost use Rattle.t1_code.specs.Parts.{slices_bytes};
 
-use crate::cipher::Cipher;
-use crate::counted::{Counted, MAX_PUT};
-use crate::pieces::total_len;
-use std::io::{self, Write};
+use crate::charstring::Cipher;
+use crate::counted::MAX_PUT;
+use crate::form::total_len;
 use std::marker::Model;
 
 /// Bytes that wait until a whole chunk of them goes out.
 #[derive(Drop)]
-pub struct Chunk {
+pub(crate) struct Chunk {
     bytes: [u8; MAX_PUT],
     len: usize,
 }
@@ -48,7 +46,7 @@ fn encrypt_front(bytes: &mut [u8], len: usize, cipher: &mut Cipher)
 
 impl Chunk {
     /// No byte waits.
-    pub fn new() -> Self
+    pub(crate) fn new() -> Self
         ensures { result ≡ [] }
     {
         Chunk {
@@ -58,7 +56,7 @@ impl Chunk {
     }
 
     /// Puts bytes after the others.
-    fn keep(&mut self, bytes: &[u8])
+    pub(crate) fn keep(&mut self, bytes: &[u8])
         requires { length self.old + length bytes.now ≤ 4096 }
         ensures { self.new ≡ self.old ++ bytes.now }
     {
@@ -89,7 +87,7 @@ impl Chunk {
     }
 
     /// How many bytes more it takes.
-    fn room(&self) -> usize
+    pub(crate) fn room(&self) -> usize
         ensures { length self.now + result ≡ 4096 }
     {
         MAX_PUT - self.len
@@ -106,69 +104,4 @@ impl Chunk {
     {
         self.len = 0;
     }
-
-    /// Hands all that waits to the writer.
-    pub fn send<W: Write>(&mut self, out: &mut Counted<W>) -> io::Result<()>
-        ensures text { Writes W.contents out.old out.new self.old result }
-        ensures empty { OnOk result (self.new ≡ []) }
-    {
-        out.put_all(self.as_slice())?;
-        self.clear();
-        Ok(())
-    }
-
-    /// Sends what waits where no byte more goes in.
-    fn make_room<W: Write>(&mut self, out: &mut Counted<W>) -> io::Result<()>
-        ensures text { Puts W.contents (outlet out.old self.old) (outlet out.new self.new) []
-            result }
-        ensures room { OnOk result (length self.new < 4096) }
-    {
-        if self.room() > 0 {
-            return Ok(());
-        }
-        self.send(out)
-    }
-}
-
-/// Passes bytes on as they are, a chunk of them at a time.
-fn put_in_turns<W: Write>(out: &mut Counted<W>, chunk: &mut Chunk, bytes: &[u8]) -> io::Result<()>
-    ensures { Puts W.contents (outlet out.old chunk.old) (outlet out.new chunk.new) bytes.now
-        result }
-{
-    let mut rest = bytes;
-    while !rest.is_empty() {
-        chunk.make_room(out)?;
-        let (front, after) = rest.split_at(rest.len().min(chunk.room()));
-        chunk.keep(front);
-        rest = after;
-    }
-    Ok(())
-}
-
-/// Passes bytes on as they are. Those that the chunk still takes only wait there.
-#[tactic(auto, using(crate::proofs::Writing::kept_passes))]
-pub fn put_plain<W: Write>(out: &mut Counted<W>, chunk: &mut Chunk, bytes: &[u8]) -> io::Result<()>
-    ensures { Puts W.contents (outlet out.old chunk.old) (outlet out.new chunk.new) bytes.now
-        result }
-{
-    if bytes.len() <= chunk.room() {
-        chunk.keep(bytes);
-        return Ok(());
-    }
-    put_in_turns(out, chunk, bytes)
-}
-
-/// Passes slices on, one after another, as `put_plain` does.
-pub fn put_slices<W: Write>(
-    out: &mut Counted<W>,
-    chunk: &mut Chunk,
-    slices: &[&[u8]],
-) -> io::Result<()>
-    ensures { Puts W.contents (outlet out.old chunk.old) (outlet out.new chunk.new)
-        (slices_bytes slices.now) result }
-{
-    for slice in slices {
-        put_plain(out, chunk, slice)?;
-    }
-    Ok(())
 }

@@ -2,16 +2,17 @@
 ghost use Rattle.std.specs.Prelude.{◌≡◌, ◌≤◌, [], length, OnOk};
 ghost use Rattle.std.specs.List.{flat_map};
 ghost use Rattle.t1_code.specs.Cipher.{cipher as encrypted, eexec, key_after};
-ghost use Rattle.t1_code.specs.Writing.{Puts, outlet};
+ghost use Rattle.t1_code.specs.Writing.{Puts};
 ghost use Rattle.t1_code.specs.Eexec.{formed, form_after, EexecState, enciphered, state_after};
 ghost use Rattle.t1_code.specs.Parts.{piece_text, slices_bytes};
 
+use crate::charstring::Cipher;
 use crate::chunk::Chunk;
-use crate::cipher::Cipher;
-use crate::counted::{Counted, MAX_PUT};
+use crate::counted::MAX_PUT;
+use crate::form::{EEXEC_LEAD, charstring_len, slices};
 use crate::hexadecimal::HexLines;
+use crate::outlet::Outlet;
 use crate::parts::Piece;
-use crate::pieces::{EEXEC_LEAD, charstring_len, slices};
 use crate::segments::Segmenter;
 use itoa::Buffer;
 use std::io::{self, Write};
@@ -31,19 +32,13 @@ pub(crate) enum EncryptedForm {
 
 impl EncryptedForm {
     /// Passes encrypted bytes on.
-    fn put<W: Write>(
-        &mut self,
-        out: &mut Counted<W>,
-        chunk: &mut Chunk,
-        bytes: &[u8],
-    ) -> io::Result<()>
-        ensures text { Puts W.contents (outlet out.old chunk.old) (outlet out.new chunk.new)
-            (formed self.old bytes.now) result }
+    fn put<W: Write>(&mut self, outlet: &mut Outlet<W>, bytes: &[u8]) -> io::Result<()>
+        ensures text { Puts W.contents outlet.old outlet.new (formed self.old bytes.now) result }
         ensures state { OnOk result (self.new ≡ form_after self.old bytes.now) }
     {
         match self {
-            EncryptedForm::Binary(segmenter) => segmenter.put(out, chunk, bytes),
-            EncryptedForm::Hexadecimal(lines) => lines.put(out, chunk, bytes),
+            EncryptedForm::Binary(segmenter) => segmenter.put(outlet, bytes),
+            EncryptedForm::Hexadecimal(lines) => lines.put(outlet, bytes),
         }
     }
 }
@@ -90,13 +85,8 @@ impl EexecWriter {
     }
 
     /// Passes bytes on encrypted.
-    fn put<W: Write>(
-        &mut self,
-        out: &mut Counted<W>,
-        chunk: &mut Chunk,
-        bytes: &[u8],
-    ) -> io::Result<()>
-        ensures text { Puts W.contents (outlet out.old chunk.old) (outlet out.new chunk.new)
+    fn put<W: Write>(&mut self, outlet: &mut Outlet<W>, bytes: &[u8]) -> io::Result<()>
+        ensures text { Puts W.contents outlet.old outlet.new
             (enciphered self.old bytes.now) result }
         ensures state { OnOk result (self.new ≡ state_after self.old bytes.now) }
     {
@@ -104,55 +94,40 @@ impl EexecWriter {
         while !rest.is_empty() {
             let (front, after) = rest.split_at(rest.len().min(MAX_PUT));
             let encrypted = encrypt_into(&mut self.cipher, &mut self.buffer, front);
-            self.form.put(out, chunk, encrypted)?;
+            self.form.put(outlet, encrypted)?;
             rest = after;
         }
         Ok(())
     }
 
     /// Passes slices on encrypted, one after another.
-    fn put_each<W: Write>(
-        &mut self,
-        out: &mut Counted<W>,
-        chunk: &mut Chunk,
-        slices: &[&[u8]],
-    ) -> io::Result<()>
-        ensures text { Puts W.contents (outlet out.old chunk.old) (outlet out.new chunk.new)
+    fn put_each<W: Write>(&mut self, outlet: &mut Outlet<W>, slices: &[&[u8]]) -> io::Result<()>
+        ensures text { Puts W.contents outlet.old outlet.new
             (enciphered self.old (slices_bytes slices.now)) result }
         ensures state { OnOk result (self.new ≡ state_after self.old (slices_bytes slices.now)) }
     {
         for slice in slices {
-            self.put(out, chunk, slice)?;
+            self.put(outlet, slice)?;
         }
         Ok(())
     }
 
     /// Passes the bytes that wait on encrypted.
-    fn pass<W: Write>(
-        &mut self,
-        out: &mut Counted<W>,
-        chunk: &mut Chunk,
-        waiting: &mut Chunk,
-    ) -> io::Result<()>
-        ensures text { Puts W.contents (outlet out.old chunk.old) (outlet out.new chunk.new)
+    fn pass<W: Write>(&mut self, outlet: &mut Outlet<W>, waiting: &mut Chunk) -> io::Result<()>
+        ensures text { Puts W.contents outlet.old outlet.new
             (enciphered self.old waiting.old) result }
         ensures state { OnOk result (self.new ≡ state_after self.old waiting.old) }
         ensures empty { OnOk result (waiting.new ≡ []) }
     {
         waiting.encrypt(&mut self.cipher);
-        self.form.put(out, chunk, waiting.as_slice())?;
+        self.form.put(outlet, waiting.as_slice())?;
         waiting.clear();
         Ok(())
     }
 
     /// Passes pieces of the private text on encrypted, as many of them in one go as a chunk takes.
-    fn put_pieces<W: Write>(
-        &mut self,
-        out: &mut Counted<W>,
-        chunk: &mut Chunk,
-        pieces: &[Piece],
-    ) -> io::Result<()>
-        ensures text { Puts W.contents (outlet out.old chunk.old) (outlet out.new chunk.new)
+    fn put_pieces<W: Write>(&mut self, outlet: &mut Outlet<W>, pieces: &[Piece]) -> io::Result<()>
+        ensures text { Puts W.contents outlet.old outlet.new
             (enciphered self.old (flat_map piece_text pieces.now)) result }
     {
         let mut waiting = Chunk::new();
@@ -163,26 +138,25 @@ impl EexecWriter {
             if waiting.keep_all(&slices) {
                 continue;
             }
-            self.pass(out, chunk, &mut waiting)?;
+            self.pass(outlet, &mut waiting)?;
             if !waiting.keep_all(&slices) {
-                self.put_each(out, chunk, &slices)?;
+                self.put_each(outlet, &slices)?;
             }
         }
-        self.pass(out, chunk, &mut waiting)
+        self.pass(outlet, &mut waiting)
     }
 }
 
 /// Passes the private text on, after its leading bytes, encrypted and in this form.
 pub(crate) fn put_private<W: Write>(
-    out: &mut Counted<W>,
-    chunk: &mut Chunk,
+    outlet: &mut Outlet<W>,
     form: EncryptedForm,
     pieces: &[Piece],
 ) -> io::Result<()>
-    ensures { Puts W.contents (outlet out.old chunk.old) (outlet out.new chunk.new)
+    ensures { Puts W.contents outlet.old outlet.new
         (formed form (eexec (flat_map piece_text pieces.now))) result }
 {
     let mut writer = EexecWriter::new(form);
-    writer.put(out, chunk, &[0; EEXEC_LEAD])?;
-    writer.put_pieces(out, chunk, pieces)
+    writer.put(outlet, &[0; EEXEC_LEAD])?;
+    writer.put_pieces(outlet, pieces)
 }

@@ -7,11 +7,9 @@ ghost use Rattle.t1_frac.specs.Outcome.{reported_at};
 ghost use Rattle.t1_frac.specs.declared.fault.Place.TheVariants.{Nowhere};
 
 use crate::block_size::BlockSize;
-use crate::form::FileForm;
+use crate::form::{FileForm, Pfb, private_part_len};
 use crate::parts::Parts;
 use crate::pfa::Pfa;
-use crate::pfb::Pfb;
-use crate::pieces::private_part_len;
 use t1_frac::Code;
 
 /// How many bytes the head of a segment has.

@@ -1,12 +1,11 @@
 //! Bytes in lines of hexadecimal digits.
 ghost use Rattle.std.specs.Prelude.{◌≡◌, ◌<◌, [], ◌∷◌, OnOk};
-ghost use Rattle.t1_code.specs.Writing.{Puts, outlet};
+ghost use Rattle.t1_code.specs.Writing.{Puts};
 ghost use Rattle.t1_code.specs.Hexadecimal.{in_lines, line_end_due, next_room, refilled};
 ghost use Rattle.t1_code.specs.Hexadecimal.{room_after};
 ghost use Rattle.t1_code.specs.Pfa.{hexadecimal_digit, digits_of_byte};
 
-use crate::chunk::{Chunk, put_plain};
-use crate::counted::Counted;
+use crate::outlet::Outlet;
 use std::io::{self, Write};
 
 /// How many bytes a line takes, of two digits each.
@@ -46,48 +45,37 @@ impl HexLines {
     }
 
     /// Ends the present line where it is full.
-    fn end_full<W: Write>(&mut self, out: &mut Counted<W>, chunk: &mut Chunk) -> io::Result<()>
-        ensures text { Puts W.contents (outlet out.old chunk.old) (outlet out.new chunk.new)
-            (line_end_due self.old.room) result }
+    fn end_full<W: Write>(&mut self, outlet: &mut Outlet<W>) -> io::Result<()>
+        ensures text { Puts W.contents outlet.old outlet.new (line_end_due self.old.room) result }
         ensures state { OnOk result (self.new.room ≡ refilled self.old.room) }
     {
         if self.room > 0 {
             return Ok(());
         }
-        put_plain(out, chunk, b"\n")?;
+        outlet.put(b"\n")?;
         self.room = LINE_BYTES;
         Ok(())
     }
 
     /// Passes the digits of a byte on, after the end of a full line.
-    fn put_byte<W: Write>(
-        &mut self,
-        out: &mut Counted<W>,
-        chunk: &mut Chunk,
-        byte: u8,
-    ) -> io::Result<()>
-        ensures text { Puts W.contents (outlet out.old chunk.old) (outlet out.new chunk.new)
+    fn put_byte<W: Write>(&mut self, outlet: &mut Outlet<W>, byte: u8) -> io::Result<()>
+        ensures text { Puts W.contents outlet.old outlet.new
             (in_lines self.old.room (byte ∷ [])) result }
         ensures state { OnOk result (self.new.room ≡ next_room self.old.room) }
     {
-        self.end_full(out, chunk)?;
+        self.end_full(outlet)?;
         self.room -= 1;
-        put_plain(out, chunk, &digits(byte))
+        outlet.put(&digits(byte))
     }
 
     /// Passes the digits of bytes on.
-    pub(crate) fn put<W: Write>(
-        &mut self,
-        out: &mut Counted<W>,
-        chunk: &mut Chunk,
-        bytes: &[u8],
-    ) -> io::Result<()>
-        ensures text { Puts W.contents (outlet out.old chunk.old) (outlet out.new chunk.new)
+    pub(crate) fn put<W: Write>(&mut self, outlet: &mut Outlet<W>, bytes: &[u8]) -> io::Result<()>
+        ensures text { Puts W.contents outlet.old outlet.new
             (in_lines self.old.room bytes.now) result }
         ensures state { OnOk result (self.new.room ≡ room_after self.old.room bytes.now) }
     {
         for byte in bytes {
-            self.put_byte(out, chunk, *byte)?;
+            self.put_byte(outlet, *byte)?;
         }
         Ok(())
     }

@@ -2,41 +2,35 @@
 ghost use Rattle.std.specs.Prelude.{◌≢◌, Err};
 ghost use Rattle.std.specs.List.{flat_map};
 ghost use Rattle.t1_code.specs.Cipher.{eexec};
-ghost use Rattle.t1_code.specs.Writing.{Puts, outlet};
+ghost use Rattle.t1_code.specs.Writing.{Puts};
 ghost use Rattle.t1_code.specs.Parts.{piece_text, pieces_text, hexadecimal_file_of, Prints};
 ghost use Rattle.t1_code.specs.Pfa.{hexadecimal_lines, pfa};
 
-use crate::chunk::{Chunk, put_plain};
 use crate::counted::Counted;
 use crate::eexec::{EncryptedForm, put_private};
-use crate::form::{FileForm, write_file};
+use crate::form::{FileForm, private_part_len, write_file};
 use crate::hexadecimal::HexLines;
+use crate::outlet::Outlet;
 use crate::parts::{OutError, Parts, Piece};
-use crate::pieces::private_part_len;
 use std::io::{self, Write};
 
 /// Passes the encrypted private text on in lines of hexadecimal digits.
-fn put_digits<W: Write>(out: &mut Counted<W>, chunk: &mut Chunk, pieces: &[Piece]) -> io::Result<()>
-    ensures { Puts W.contents (outlet out.old chunk.old) (outlet out.new chunk.new)
+fn put_digits<W: Write>(outlet: &mut Outlet<W>, pieces: &[Piece]) -> io::Result<()>
+    ensures { Puts W.contents outlet.old outlet.new
         (hexadecimal_lines (eexec (flat_map piece_text pieces.now))) result }
 {
-    put_private(
-        out,
-        chunk,
-        EncryptedForm::Hexadecimal(HexLines::new()),
-        pieces,
-    )?;
-    put_plain(out, chunk, b"\n")
+    put_private(outlet, EncryptedForm::Hexadecimal(HexLines::new()), pieces)?;
+    outlet.put(b"\n")
 }
 
 /// Passes on the file.
-fn put_file<W: Write>(out: &mut Counted<W>, chunk: &mut Chunk, parts: &Parts) -> io::Result<()>
-    ensures { Puts W.contents (outlet out.old chunk.old) (outlet out.new chunk.new)
+fn put_file<W: Write>(outlet: &mut Outlet<W>, parts: &Parts) -> io::Result<()>
+    ensures { Puts W.contents outlet.old outlet.new
         (pfa parts.now.clear.now (pieces_text parts.now) parts.now.trailer.now) result }
 {
-    put_plain(out, chunk, parts.clear)?;
-    put_digits(out, chunk, parts.pieces)?;
-    put_plain(out, chunk, parts.trailer)
+    outlet.put(parts.clear)?;
+    put_digits(outlet, parts.pieces)?;
+    outlet.put(parts.trailer)
 }
 
 /// The PFA form: the private part in lines of 64 lower-case hexadecimal digits.
@@ -48,14 +42,9 @@ impl FileForm for Pfa {
 
     ghost file = { λ _. pfa_of };
 
-    fn put<W: Write>(
-        &self,
-        parts: &Parts,
-        out: &mut Counted<W>,
-        chunk: &mut Chunk,
-    ) -> Result<(), OutError> {
+    fn put<W: Write>(&self, parts: &Parts, outlet: &mut Outlet<W>) -> Result<(), OutError> {
         private_part_len(parts)?;
-        put_file(out, chunk, parts)?;
+        put_file(outlet, parts)?;
         Ok(())
     }
 }

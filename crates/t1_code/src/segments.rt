@@ -1,13 +1,12 @@
 //! A part of a PFB file, cut into segments.
 ghost use Rattle.std.specs.Prelude.{◌≡◌, ◌^◌, ◌<◌, min, IfOk, OnOk};
-ghost use Rattle.t1_code.specs.Writing.{Puts, outlet};
+ghost use Rattle.t1_code.specs.Writing.{Puts};
 ghost use Rattle.t1_code.specs.Segments.{Segmenting, head_due, segment_opened, in_segments};
 ghost use Rattle.t1_code.specs.Segments.{segmenting_after};
 ghost use Rattle.t1_code.specs.Pfb.{segment_head as head, segments};
 
 use crate::block_size::BlockSize;
-use crate::chunk::{Chunk, put_plain};
-use crate::counted::Counted;
+use crate::outlet::Outlet;
 use std::io::{self, Write};
 use std::marker::Model;
 
@@ -43,19 +42,17 @@ impl Model for Segmenter {
 impl Segmenter {
     /// Begins a part of so many bytes, and passes the head of its first segment on.
     pub(crate) fn begin<W: Write>(
-        out: &mut Counted<W>,
-        chunk: &mut Chunk,
+        outlet: &mut Outlet<W>,
         kind: u8,
         size: BlockSize,
         len: usize,
     ) -> io::Result<Segmenter>
-        ensures text { Puts W.contents (outlet out.old chunk.old) (outlet out.new chunk.new)
-            (head kind (min size len)) result }
+        ensures text { Puts W.contents outlet.old outlet.new (head kind (min size len)) result }
         ensures state { IfOk result
             (λ segmenter.
             segmenter ≡ record { kind = kind; size = size; room = size; left = len }) }
     {
-        put_plain(out, chunk, &segment_head(kind, size.get().min(len)))?;
+        outlet.put(&segment_head(kind, size.get().min(len)))?;
         Ok(Segmenter {
             kind,
             size,
@@ -65,40 +62,30 @@ impl Segmenter {
     }
 
     /// Begins a segment where the present one takes no byte more.
-    fn open<W: Write>(&mut self, out: &mut Counted<W>, chunk: &mut Chunk) -> io::Result<()>
-        ensures text { Puts W.contents (outlet out.old chunk.old) (outlet out.new chunk.new)
-            (head_due self.old) result }
+    fn open<W: Write>(&mut self, outlet: &mut Outlet<W>) -> io::Result<()>
+        ensures text { Puts W.contents outlet.old outlet.new (head_due self.old) result }
         ensures state { OnOk result (self.new ≡ segment_opened self.old) }
         ensures room { OnOk result (0 < self.new.room) }
     {
         if self.room > 0 {
             return Ok(());
         }
-        put_plain(
-            out,
-            chunk,
-            &segment_head(self.kind, self.size.get().min(self.left)),
-        )?;
+        outlet.put(&segment_head(self.kind, self.size.get().min(self.left)))?;
         self.room = self.size.get();
         Ok(())
     }
 
     /// Passes bytes of the part on.
-    pub(crate) fn put<W: Write>(
-        &mut self,
-        out: &mut Counted<W>,
-        chunk: &mut Chunk,
-        bytes: &[u8],
-    ) -> io::Result<()>
-        ensures text { Puts W.contents (outlet out.old chunk.old) (outlet out.new chunk.new)
+    pub(crate) fn put<W: Write>(&mut self, outlet: &mut Outlet<W>, bytes: &[u8]) -> io::Result<()>
+        ensures text { Puts W.contents outlet.old outlet.new
             (in_segments self.old bytes.now) result }
         ensures state { OnOk result (self.new ≡ segmenting_after self.old bytes.now) }
     {
         let mut rest = bytes;
         while !rest.is_empty() {
-            self.open(out, chunk)?;
+            self.open(outlet)?;
             let (front, after) = rest.split_at(rest.len().min(self.room));
-            put_plain(out, chunk, front)?;
+            outlet.put(front)?;
             self.room -= front.len();
             self.left = self.left.saturating_sub(front.len());
             rest = after;
@@ -109,16 +96,14 @@ impl Segmenter {
 
 /// Passes a part on in segments of its type with so many bytes each.
 pub(crate) fn put_part<W: Write>(
-    out: &mut Counted<W>,
-    chunk: &mut Chunk,
+    outlet: &mut Outlet<W>,
     kind: u8,
     size: BlockSize,
     bytes: &[u8],
 ) -> io::Result<()>
-    ensures { Puts W.contents (outlet out.old chunk.old) (outlet out.new chunk.new)
-        (segments size kind bytes.now) result }
+    ensures { Puts W.contents outlet.old outlet.new (segments size kind bytes.now) result }
 {
     size.has_bytes();
-    let mut segmenter = Segmenter::begin(out, chunk, kind, size, bytes.len())?;
-    segmenter.put(out, chunk, bytes)
+    let mut segmenter = Segmenter::begin(outlet, kind, size, bytes.len())?;
+    segmenter.put(outlet, bytes)
 }

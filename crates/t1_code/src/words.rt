@@ -1,21 +1,25 @@
-//! The words of a body, read as commands.
+//! The words of a body: read as commands, and put straight into a charstring.
 ghost use Rattle.std.specs.Prelude.{◌≡◌, ◌<◌, ◌≤◌, [], Ok, false, nat_lt, ◌∷◌, ◌++◌, length, take};
 ghost use Rattle.std.specs.Prelude.{IfSome, MatchOption, OnOk, OnErr};
 ghost use Rattle.t1_frac.specs.Outcome.{Gives, reported_at};
 ghost use Rattle.t1_frac.specs.Words.{trimmed_front, words};
 ghost use Rattle.t1_frac.specs.declared.fault.Place.TheVariants.{Nowhere};
-ghost use Rattle.t1_code.specs.Words.{number_command, in_32_bits};
+ghost use Rattle.t1_frac.specs.declared.fault.Place.TheVariants as places;
+ghost use Rattle.t1_code.specs.Words.{number_command, in_32_bits, command_of_word, command_then};
+ghost use Rattle.t1_code.specs.Words.{commands_of_words, commands};
 ghost use Rattle.t1_code.specs.FoundCommands.{first_word, after_others};
-ghost use Rattle.t1_code.specs.Words.{command_of_word, command_then, commands_of_words, commands};
-ghost use Rattle.t1_code.specs.declared.command.Command.TheVariants as commands_named;
 ghost use Rattle.t1_frac.specs.Numbers.{signed, is_number_word};
+ghost use Rattle.t1_code.specs.Charstring.{charstring_of_words};
+ghost use Rattle.t1_code.specs.Appending.{charstring_onto, onto};
+ghost use Rattle.t1_code.specs.Cipher.{encrypted_words};
+ghost use Rattle.t1_code.specs.declared.command.Command.TheVariants as commands_named;
 
 use crate::body::Body;
-use crate::command::{Command, frequent};
-use crate::first_word::{after_word, past_end};
+use crate::charstring::{CHARSTRING_KEY, Cipher, push_command};
+use crate::command::{Command, after_word, frequent, past_end};
 use std::alloc::{AllocError, Global};
 use t1_frac::{
-    Code, Refusal, Words, digits_of_word, leading_number, leading_short_number, next_word,
+    Code, Place, Refusal, Words, digits_of_word, leading_number, leading_short_number, next_word,
     skip_blanks,
 };
 
@@ -277,4 +281,93 @@ pub fn compile(alloc: Global, words: &Words) -> Result<Body, Refusal>
     let mut body = Vec::with_capacity(alloc, words.as_bytes().len() / 4)?;
     compile_onto(&mut body, words)?;
     Ok(Body::new(body))
+}
+
+/// The commands of a Subr's words, or their fault with the Subr's number.
+pub fn compiled_subr(alloc: Global, number: u16, words: &Words) -> Result<Body, Refusal>
+    ensures { Gives (λ body. body) result (reported_at (places.Subr number) (commands words.now)) }
+{
+    match compile(alloc, words) {
+        Err(refusal) => Err(refusal.at(Place::Subr(number))),
+        compiled => compiled,
+    }
+}
+
+/// The commands of a glyph's words, or their fault with the glyph's name.
+#[tactic(auto, using(t1_frac::proofs::OutcomeLaws::refuses_at))]
+pub fn compiled_glyph(alloc: Global, name: &[u8], words: &Words) -> Result<Body, Refusal>
+    ensures { Gives (λ body. body) result
+        (reported_at (places.Glyph name.now) (commands words.now)) }
+{
+    match compile(alloc, words) {
+        Err(refusal) => Err(refusal.at_glyph(alloc, name)),
+        compiled => compiled,
+    }
+}
+
+/// Adds the charstring of a text's words. At a fault or out of memory some of it stands after the
+/// code that was there.
+#[tactic(auto, using(crate::proofs::Adding::coded_step, crate::proofs::Adding::front_grows))]
+fn push_words(code: &mut Vec<u8>, text: &[u8]) -> Result<(), Refusal>
+    ensures value { Gives (λ _. code.new.items) result
+        (reported_at Nowhere
+        (charstring_onto code.old.items (commands_of_words (words text.now)))) }
+    ensures front { take (length code.old.items) code.new.items ≡ code.old.items }
+{
+    let mut rest = text;
+    while let Some((command, after)) = next_command(rest) {
+        push_command(code, command?)?;
+        rest = after;
+    }
+    Ok(())
+}
+
+/// Adds the charstring of a body's words, not encrypted, after the code that is there: F22 past
+/// 65,535 words, then the first word's fault that has one. At a fault and where memory runs out the
+/// code is as it was.
+#[tactic(auto, unfolding(crate::specs::Words::commands))]
+pub fn assemble_onto(code: &mut Vec<u8>, words: &Words) -> Result<(), Refusal>
+    ensures value { Gives (λ _. code.new.items) result
+        (reported_at Nowhere (onto code.old.items (charstring_of_words words.now))) }
+    ensures err { OnErr result (code.new.items ≡ code.old.items) }
+{
+    if is_too_long(words.as_bytes()) {
+        return Err(Refusal::from(Code::F22));
+    }
+    let start = code.len();
+    match push_words(code, words.as_bytes()) {
+        Ok(()) => Ok(()),
+        Err(refusal) => {
+            code.truncate(start);
+            Err(refusal)
+        }
+    }
+}
+
+/// Puts the encrypted charstring of a body's words, with its leading bytes, in the place of what
+/// the buffer holds, or gives the fault of the words as `assemble_onto` does. The buffer's memory
+/// is kept, so that one buffer serves all bodies of a font; at a fault and where memory runs out
+/// what it holds isn't said, and the next call clears it.
+#[tactic(auto, unfolding(crate::specs::Cipher::encrypted_words), using(crate::proofs::Adding::encrypted_at))]
+pub fn encrypt_words(code: &mut Vec<u8>, lead: u8, words: &Words) -> Result<(), Refusal>
+    ensures { Gives (λ _. code.new.items) result
+        (reported_at Nowhere (encrypted_words lead words.now)) }
+{
+    code.clear();
+    code.resize(usize::from(lead), 0)?;
+    assemble_onto(code, words)?;
+    Cipher::new(CHARSTRING_KEY).encrypt(code);
+    Ok(())
+}
+
+/// The charstring of a body's words, not encrypted, or the fault of the words as `assemble_onto`
+/// gives it.
+#[tactic(auto, using(crate::proofs::Adding::onto_nothing))]
+pub fn assemble(alloc: Global, words: &Words) -> Result<Vec<u8>, Refusal>
+    ensures { Gives (λ code. code.items) result
+        (reported_at Nowhere (charstring_of_words words.now)) }
+{
+    let mut code = Vec::new(alloc);
+    assemble_onto(&mut code, words)?;
+    Ok(code)
 }

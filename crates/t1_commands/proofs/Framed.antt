@@ -3,9 +3,10 @@ use Rattle.std.proofs.Common.{◌≡◌, ◌++◌, ◌∷◌, [], ℕ, List, Opt
 use Rattle.std.specs.Prelude.{codes}
 use Rattle.std.proofs.lemmas.List.{append_assoc}
 use Rattle.t1_frac.specs.declared.fault.Fault.{Fault}
+use Rattle.t1_code.specs.declared.outlet.Outlet.{Outlet}
 use Rattle.t1_code.specs.declared.parts.OutError.{OutError}
 use Rattle.t1_code.specs.declared.parts.OutError.TheVariants as out
-use Rattle.t1_code.specs.Writing.{Outlet, Passes, Stops}
+use Rattle.t1_code.specs.Writing.{Passes, Stops}
 use Rattle.t1_code.specs.Parts.{PassesFile, length_of}
 use Rattle.t1_code.proofs.Writing.{passing, Written, Written-from, Written-step, Written-fails, Written-all}
 use Rattle.t1_commands.specs.AnswerTexts.{data_text}

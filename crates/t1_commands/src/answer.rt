@@ -11,7 +11,7 @@ ghost use Rattle.t1_commands.specs.AnswerTexts.{fault_text, data_text, answer_te
 use itoa::Buffer;
 use std::alloc::AllocError;
 use std::io::{self, Write};
-use t1_code::{Chunk, Counted, put_slices};
+use t1_code::{Counted, write_slices};
 use t1_frac::{Bytes, Code, Fault, Place};
 use t1_source::{Cause, Rule};
 
@@ -104,16 +104,6 @@ fn code_name(code: Code) -> &'static [u8]
         Code::F47 => b"F47",
         Code::F48 => b"F48",
     }
-}
-
-/// Writes slices, one after another, by way of a chunk: one call of the writer takes up to 4,096
-/// bytes of them.
-fn write_slices<W: Write>(writer: &mut Counted<W>, slices: &[&[u8]]) -> io::Result<()>
-    ensures { Writes W.contents writer.old writer.new (slices_bytes slices.now) result }
-{
-    let mut chunk = Chunk::new();
-    put_slices(writer, &mut chunk, slices)?;
-    chunk.send(writer)
 }
 
 /// The number that stands in a place.

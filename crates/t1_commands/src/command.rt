@@ -1,12 +1,11 @@
 //! The commands of a session, by the words of their lines.
-ghost use Rattle.std.specs.Str.{bytes_eq};
-ghost use Rattle.std.specs.Prelude.{◌≡◌, ◌||◌, option_map, ◌<◌, IfOk};
+ghost use Rattle.std.specs.Prelude.{◌≡◌, option_map, ◌<◌, IfOk};
 ghost use Rattle.t1_frac.specs.Words.{words};
 ghost use Rattle.t1_commands.specs.Commands.{one_word, two_words, three_words, removal, setting};
 ghost use Rattle.t1_commands.specs.Commands.{whole_print, blocks_print, print_of, whole_show};
 ghost use Rattle.t1_commands.specs.Commands.{entry_show, show_of, other_command, line_command};
-ghost use Rattle.t1_commands.specs.Commands.{body_command, bodied_edit, open_command, takes_body};
-ghost use Rattle.t1_commands.specs.Commands.{ends_body, edit_of, lone, is_wordless, number_of};
+ghost use Rattle.t1_commands.specs.Commands.{body_command, bodied_edit, open_command, ends_body};
+ghost use Rattle.t1_commands.specs.Commands.{edit_of, lone, is_wordless, number_of};
 ghost use Rattle.t1_commands.specs.MadeCommands.{Makes};
 ghost use Rattle.t1_source.specs.declared.edit.Edit.TheVariants as edits;
 
@@ -380,32 +379,11 @@ pub fn open_command(heading: &[u8]) -> SessionCommand
     }
 }
 
-/// Whether a word is one of two.
-fn is_either(word: &[u8], one: &[u8], other: &[u8]) -> bool
-    ensures { result ≡ bytes_eq word.now one.now || bytes_eq word.now other.now }
-{
-    word == one || word == other
-}
-
 /// Whether a line has no words.
 pub fn is_blank_line(line: &[u8]) -> bool
     ensures { result ≡ is_wordless (words line.now) }
 {
     next_word(line).is_none()
-}
-
-/// Whether a line takes a body, by its first two words.
-#[tactic(auto, unfolding(crate::specs::Commands::takes_body))]
-pub fn takes_body(line: &[u8]) -> bool
-    ensures { result ≡ takes_body (words line.now) }
-{
-    let Some((verb, rest)) = next_word(line) else {
-        return false;
-    };
-    let Some((kind, _)) = next_word(rest) else {
-        return false;
-    };
-    is_either(verb, b"replace", b"add") && is_either(kind, b"glyph", b"subr")
 }
 
 /// Whether a line ends a body: it is `.`, apart from blanks.

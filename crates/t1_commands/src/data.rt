@@ -1,21 +1,20 @@
 //! Files as the data of an answer: after their length, and not made in memory.
 ghost use Rattle.std.specs.Prelude.{◌≡◌, Ok};
-ghost use Rattle.t1_code.specs.Writing.{Puts, outlet};
+ghost use Rattle.t1_code.specs.Writing.{Puts};
 ghost use Rattle.t1_code.specs.Parts.{PassesFile, length_of, pieces_text};
 ghost use Rattle.t1_commands.specs.AnswerParts.{data_of, data_head};
 
 use itoa::Buffer;
 use std::io::{self, Write};
-use t1_code::{Chunk, Counted, FileForm, FileLen, OutError, Parts, put_plain, put_slices};
+use t1_code::{FileForm, FileLen, OutError, Outlet, Parts};
 
 /// Passes on the line that says how many bytes follow.
-fn put_head<W: Write>(out: &mut Counted<W>, chunk: &mut Chunk, len: u64) -> io::Result<()>
-    ensures { Puts W.contents (outlet out.old chunk.old) (outlet out.new chunk.new) (data_head len)
-        result }
+fn put_head<W: Write>(outlet: &mut Outlet<W>, len: u64) -> io::Result<()>
+    ensures { Puts W.contents outlet.old outlet.new (data_head len) result }
 {
     let mut buffer = Buffer::new();
     let digits = buffer.format(len);
-    put_slices(out, chunk, &[b"data ", digits.as_bytes(), b"\n"])
+    outlet.put_slices(&[b"data ", digits.as_bytes(), b"\n"])
 }
 
 /// Passes on a file of so many bytes, between the line that says how many they are and a line end.
@@ -23,20 +22,19 @@ fn put_data<F: FileForm, W: Write>(
     form: &F,
     len: u64,
     parts: &Parts,
-    out: &mut Counted<W>,
-    chunk: &mut Chunk,
+    outlet: &mut Outlet<W>,
 ) -> Result<(), OutError>
     requires { length_of
         (F.file form.now parts.now.clear.now (pieces_text parts.now) parts.now.trailer.now)
         ≡ Ok len }
-    ensures { PassesFile W.contents (outlet out.old chunk.old) (outlet out.new chunk.new)
+    ensures { PassesFile W.contents outlet.old outlet.new
         (data_of
         (F.file form.now parts.now.clear.now (pieces_text parts.now) parts.now.trailer.now))
         result }
 {
-    put_head(out, chunk, len)?;
-    form.put(parts, out, chunk)?;
-    put_plain(out, chunk, b"\n")?;
+    put_head(outlet, len)?;
+    form.put(parts, outlet)?;
+    outlet.put(b"\n")?;
     Ok(())
 }
 
@@ -53,13 +51,8 @@ impl<F: FileLen> FileForm for Data<F> {
     ghost file = { λ answer clear private trailer.
         data_of (F.file answer.form clear private trailer) };
 
-    fn put<W: Write>(
-        &self,
-        parts: &Parts,
-        out: &mut Counted<W>,
-        chunk: &mut Chunk,
-    ) -> Result<(), OutError> {
+    fn put<W: Write>(&self, parts: &Parts, outlet: &mut Outlet<W>) -> Result<(), OutError> {
         let len = self.form.len(parts)?;
-        put_data(&self.form, len, parts, out, chunk)
+        put_data(&self.form, len, parts, outlet)
     }
 }

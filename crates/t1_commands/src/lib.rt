@@ -12,9 +12,8 @@
 //!
 //! - `line_command`, `body_command`, `open_command`: the command of a line's words, with its body,
 //!   or with one that the input left open; or out of memory, only for an edit that holds bytes
-//!   (`Makes`). `takes_body`, `ends_body`, `is_blank_line`: the values of the definitions of these
-//!   names (`is_wordless` for the third). `block_size`, `block_size_of_word`: a number word from 1
-//!   to 2147483647.
+//!   (`Makes`). `ends_body`, `is_blank_line`: the values of the definitions `ends_body` and
+//!   `is_wordless`. `block_size`, `block_size_of_word`: a number word from 1 to 2147483647.
 //! - `put_answer`: `answer_text` is written, whole or up to a failed write. `Data`: a file as an
 //!   answer's data, after its length.
 #![tactic(auto)]
@@ -28,7 +27,7 @@ mod show;
 
 pub use answer::{Answer, answer_of, push_fault, push_rule, push_slices, put_answer, put_fault};
 pub use command::{
-    SessionCommand, body_command, ends_body, is_blank_line, line_command, open_command, takes_body,
+    SessionCommand, body_command, ends_body, is_blank_line, line_command, open_command,
 };
 pub use data::Data;
 pub use numbers::{block_size, block_size_of_word};

@@ -1,6 +1,7 @@
 -- Words that pass on, a few at a time.
 use Rattle.std.proofs.Common.{◌≡◌, ℕ, Bool, List, [], ◌∷◌, ◌++◌, take, Option, Ok, Err, sym, ap, ◌∙◌, subst, append_assoc}
-use Rattle.t1_code.specs.Writing.{Outlet, Passes, Stops}
+use Rattle.t1_code.specs.declared.outlet.Outlet.{Outlet}
+use Rattle.t1_code.specs.Writing.{Passes, Stops}
 use Rattle.t1_code.proofs.Writing.{passing, Written, Written-step, Written-fails}
 use Rattle.t1_disassemble.specs.declared.fault.FontCode.{FontCode}
 use Rattle.t1_disassemble.specs.SoundWords.{sound_words}

@@ -13,7 +13,7 @@ ghost use Rattle.t1_disassemble.specs.Words.{words_of_encrypted};
 ghost use Rattle.t1_disassemble.specs.SoundWords.{code_lines};
 ghost use Rattle.t1_disassemble.specs.Waiting.{due, left_of};
 ghost use Rattle.t1_disassemble.specs.WordsOnto.{put_first, with_word, words_onto};
-ghost use Rattle.t1_code.specs.Writing.{Puts, outlet};
+ghost use Rattle.t1_code.specs.Writing.{Puts};
 ghost use Rattle.t1_disassemble.specs.declared.fault.FontPlace.TheVariants.{Nowhere};
 
 use crate::cipher::decipher_charstring;
@@ -22,7 +22,7 @@ use crate::known_word::{KnownWord, known_word};
 use crate::waiting::{MOST_OF_A_WORD, ROOM, make_room, put_blank, put_byte, put_bytes, put_number};
 use std::alloc::AllocError;
 use std::io::{self, Write};
-use t1_code::{Chunk, Counted, put_plain, put_slices};
+use t1_code::Outlet;
 
 /// The word of a command of one byte.
 #[tactic(auto, unfolding(t1_frac::specs::Numbers::is_number_word))]
@@ -396,65 +396,56 @@ pub(crate) fn push_encrypted(
 
 /// Passes on the words that wait where there is no room for one more, and answers how many bytes
 /// wait then.
-fn put_full<W: Write>(
-    out: &mut Counted<W>,
-    chunk: &mut Chunk,
-    bytes: &[u8; ROOM],
-    len: usize,
-) -> io::Result<usize>
+fn put_full<W: Write>(outlet: &mut Outlet<W>, bytes: &[u8; ROOM], len: usize) -> io::Result<usize>
     requires { len ≤ 256 }
-    ensures text { Puts W.contents (outlet out.old chunk.old) (outlet out.new chunk.new)
-        (due len bytes.now) result }
+    ensures text { Puts W.contents outlet.old outlet.new (due len bytes.now) result }
     ensures left { IfOk result (λ left. left ≡ left_of len) }
 {
     if len <= ROOM - MOST_OF_A_WORD {
         return Ok(len);
     }
-    put_plain(out, chunk, bytes.split_at(len).0)?;
+    outlet.put(bytes.split_at(len).0)?;
     Ok(0)
 }
 
 /// Passes on the words that wait, and ends a line that is open.
 fn put_last<W: Write>(
-    out: &mut Counted<W>,
-    chunk: &mut Chunk,
+    outlet: &mut Outlet<W>,
     bytes: &[u8; ROOM],
     len: usize,
     is_open: bool,
 ) -> io::Result<()>
     requires { len ≤ 256 }
-    ensures { Puts W.contents (outlet out.old chunk.old) (outlet out.new chunk.new)
+    ensures { Puts W.contents outlet.old outlet.new
         (take len bytes.now ++ printed_words is_open []) result }
 {
     if is_open {
-        return put_slices(out, chunk, &[bytes.split_at(len).0, b"\n"]);
+        return outlet.put_slices(&[bytes.split_at(len).0, b"\n"]);
     }
-    put_plain(out, chunk, bytes.split_at(len).0)
+    outlet.put(bytes.split_at(len).0)
 }
 
 /// Passes on the lines of the words that some bytes begin with.
 pub(crate) fn put_words<W: Write>(
     known: &[KnownWord],
-    out: &mut Counted<W>,
-    chunk: &mut Chunk,
+    outlet: &mut Outlet<W>,
     code: &[u8],
 ) -> io::Result<()>
-    ensures { Puts W.contents (outlet out.old chunk.old) (outlet out.new chunk.new)
-        (code_lines code.now) result }
+    ensures { Puts W.contents outlet.old outlet.new (code_lines code.now) result }
 {
     let mut bytes = [0; ROOM];
     let mut len = 0;
     let mut is_open = false;
     let mut rest = code;
     while let Some((first, after)) = rest.split_first() {
-        let left = put_full(out, chunk, &bytes, len)?;
+        let left = put_full(outlet, &bytes, len)?;
         let put = put_word(known, &mut bytes, left, is_open, *first, after);
         let Ok((end, opened, others)) = put else {
-            return put_last(out, chunk, &bytes, left, is_open);
+            return put_last(outlet, &bytes, left, is_open);
         };
         len = end;
         is_open = opened;
         rest = others;
     }
-    put_last(out, chunk, &bytes, len, is_open)
+    put_last(outlet, &bytes, len, is_open)
 }

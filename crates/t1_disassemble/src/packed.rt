@@ -2,7 +2,7 @@
 ghost use Rattle.std.specs.Prelude.{◌≡◌, ◌+◌, ◌≤◌, ◌++◌, ◌∷◌, [], min, length, Ok, Err, OnOk};
 ghost use Rattle.std.specs.Prelude.{MatchResult, OnErr, take, drop};
 ghost use Rattle.t1_frac.specs.Ascii.{line_feed};
-ghost use Rattle.t1_code.specs.Writing.{Puts, outlet};
+ghost use Rattle.t1_code.specs.Writing.{Puts};
 ghost use Rattle.std.specs.Prelude.{◌||◌};
 ghost use Rattle.t1_text.specs.Lines.{lines};
 ghost use Rattle.t1_disassemble.specs.Kinds.{has_second, single_sections};
@@ -22,7 +22,7 @@ use crate::private::up_to;
 use std::alloc::{AllocError, Global};
 use std::io::{self, Write};
 use std::marker::Model;
-use t1_code::{Chunk, Counted, put_plain};
+use t1_code::Outlet;
 
 /// So many bytes of lines, and the charstring of so many bytes behind them.
 #[derive(Clone, Copy, Debug)]
@@ -105,17 +105,16 @@ fn most_two(count: usize, more: usize) -> usize
 /// Passes on some lines, and the words of the charstring behind them.
 fn put_cut<W: Write>(
     known: &[KnownWord],
-    out: &mut Counted<W>,
-    chunk: &mut Chunk,
+    outlet: &mut Outlet<W>,
     cut: &Cut,
     lines: &[u8],
     codes: &[u8],
 ) -> io::Result<()>
-    ensures { Puts W.contents (outlet out.old chunk.old) (outlet out.new chunk.new)
+    ensures { Puts W.contents outlet.old outlet.new
         (take cut.now.lines lines.now ++ code_lines (take cut.now.code codes.now)) result }
 {
-    put_plain(out, chunk, up_to(lines, cut.lines))?;
-    put_words(known, out, chunk, up_to(codes, cut.code))
+    outlet.put(up_to(lines, cut.lines))?;
+    put_words(known, outlet, up_to(codes, cut.code))
 }
 
 impl Packed {
@@ -179,22 +178,20 @@ impl Packed {
     pub(crate) fn put<W: Write>(
         &self,
         known: &[KnownWord],
-        out: &mut Counted<W>,
-        chunk: &mut Chunk,
+        outlet: &mut Outlet<W>,
     ) -> io::Result<()>
-        ensures { Puts W.contents (outlet out.old chunk.old) (outlet out.new chunk.new) self.now
-            result }
+        ensures { Puts W.contents outlet.old outlet.new self.now result }
     {
         let mut lines = self.lines.as_slice();
         let mut codes = self.codes.as_slice();
         let mut rest = self.cuts.as_slice();
         while let Some((cut, others)) = rest.split_first() {
-            put_cut(known, out, chunk, cut, lines, codes)?;
+            put_cut(known, outlet, cut, lines, codes)?;
             lines = past(lines, cut.lines);
             codes = past(codes, cut.code);
             rest = others;
         }
-        put_plain(out, chunk, lines)
+        outlet.put(lines)
     }
 }
 

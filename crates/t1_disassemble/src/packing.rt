@@ -2,7 +2,7 @@
 ghost use Rattle.std.specs.Prelude.{◌≡◌, ◌+◌, ◌-◌, ◌<◌, ◌≤◌, ◌^◌, [], ◌++◌, true, length};
 ghost use Rattle.std.specs.Prelude.{OnOk, IfOk, IfErr, Ok, Err, Some, take, drop};
 ghost use Rattle.t1_text.specs.Lines.{begins_with, lines, joined};
-ghost use Rattle.t1_code.specs.Writing.{Puts, Writes, outlet};
+ghost use Rattle.t1_code.specs.Writing.{Puts, Writes};
 ghost use Rattle.t1_code.specs.Pfb.{marker};
 ghost use Rattle.t1_parts.specs.Parts.{tail_of};
 ghost use Rattle.t1_disassemble.specs.ClearPart.{clear_len, has_coded};
@@ -38,7 +38,7 @@ use crate::settings::{leading_bytes, reading_operator};
 use std::alloc::{AllocError, Global};
 use std::io::{self, Write};
 use std::marker::Model;
-use t1_code::{Chunk, Counted, put_plain};
+use t1_code::{Counted, Outlet};
 use t1_parts::tail_of;
 
 /// The source of a font. Contracts see its text.
@@ -59,21 +59,20 @@ impl Model for FontSource {
 
 impl FontSource {
     /// Passes on the text.
-    fn put<W: Write>(&self, out: &mut Counted<W>, chunk: &mut Chunk) -> io::Result<()>
-        ensures { Puts W.contents (outlet out.old chunk.old) (outlet out.new chunk.new) self.now
-            result }
+    fn put<W: Write>(&self, outlet: &mut Outlet<W>) -> io::Result<()>
+        ensures { Puts W.contents outlet.old outlet.new self.now result }
     {
-        put_plain(out, chunk, &self.front)?;
-        self.lines.put(&self.known, out, chunk)
+        outlet.put(&self.front)?;
+        self.lines.put(&self.known, outlet)
     }
 
     /// Writes the text. It takes no memory.
     pub fn write<W: Write>(&self, out: &mut Counted<W>) -> io::Result<()>
         ensures { Writes W.contents out.old out.new self.now result }
     {
-        let mut chunk = Chunk::new();
-        self.put(out, &mut chunk)?;
-        chunk.send(out)
+        let mut outlet = Outlet::new(out);
+        self.put(&mut outlet)?;
+        outlet.send()
     }
 }
 

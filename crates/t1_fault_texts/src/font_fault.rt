@@ -10,7 +10,7 @@ ghost use Rattle.t1_fault_texts.specs.FontFaults.{font_place_text, begins_with_s
 use itoa::Buffer;
 use std::alloc::{AllocError, Global};
 use std::io::{self, Write};
-use t1_code::{Chunk, Counted, put_slices};
+use t1_code::{Counted, write_slices};
 use t1_disassemble::{FontCode, FontFault, FontPlace};
 
 /// How many bytes stand in front of a Subr's number: `dup` and a space.
@@ -98,16 +98,6 @@ fn place_slices<'a>(
         FontPlace::Byte(_) => [before, code, b" byte ", number.as_bytes(), after],
         FontPlace::Entry(entry) => entry_slices(before, code, entry.as_slice(), after),
     }
-}
-
-/// Writes slices, one after another, by way of a chunk: one call of the writer takes up to 4,096
-/// bytes of them.
-fn write_slices<W: Write>(writer: &mut Counted<W>, slices: &[&[u8]]) -> io::Result<()>
-    ensures { Writes W.contents writer.old writer.new (slices_bytes slices.now) result }
-{
-    let mut chunk = Chunk::new();
-    put_slices(writer, &mut chunk, slices)?;
-    chunk.send(writer)
 }
 
 /// Writes a fault of a font's file by its code and its place, where it has one, between two texts:

@@ -1,16 +1,211 @@
-//! A source assembled to its PFB file.
-ghost use Rattle.std.specs.Prelude.{◌≡◌, IfOk};
+//! A source assembled to its PFB or PFA file: its private text in one buffer, and the parts that
+//! are written.
+ghost use Rattle.std.specs.Prelude.{◌≡◌, IfOk, ◌∷◌, ◌++◌, [], OnOk, codes, decimal};
 ghost use Rattle.t1_text.specs.Lines.{joined};
 ghost use Rattle.t1_code.specs.Parts.{Prints};
-ghost use Rattle.t1_font.specs.Assembly.{file_in, source_file, source_pfa, trailer_text};
+ghost use Rattle.t1_font.specs.Assembly.{file_in, source_file, source_pfa, trailer_text, item_line};
+ghost use Rattle.t1_font.specs.Assembly.{private_text};
+ghost use Rattle.t1_frac.specs.Ascii.{line_feed, slash};
+ghost use Rattle.t1_frac.specs.Outcome.{Gives, reported_at};
+ghost use Rattle.t1_parts.specs.ItemRefs.{item_of};
+ghost use Rattle.t1_code.specs.Cipher.{encrypted_words};
+ghost use Rattle.t1_code.specs.Pfb.{closing_text, entry_text};
+ghost use Rattle.t1_font.specs.Lengths.{put_after, private_length};
+ghost use Rattle.t1_frac.specs.declared.fault.Place.TheVariants as places;
 
-use crate::private::private_text_of;
+use itoa::Buffer;
 use std::alloc::{AllocError, Global};
 use std::io::Write;
-use t1_code::{BlockSize, Counted, FileForm, OutError, Parts, Pfa, Pfb, Piece, write_file};
-use t1_frac::Bytes;
-use t1_parts::push_lines;
+use t1_code::{
+    BlockSize, Counted, FileForm, OutError, Parts, Pfa, Pfb, Piece, encrypt_words, write_file,
+};
+use t1_frac::{Bytes, Place, Refusal, Words};
+use t1_parts::{ItemRef, Items, operator_of, push_line, push_lines};
 use t1_source::Source;
+
+/// Adds a section line with its count and its end.
+fn push_section(
+    text: &mut Vec<u8>,
+    before: &[u8],
+    count: u64,
+    after: &[u8],
+) -> Result<(), AllocError>
+    ensures { OnOk result
+        (text.new.items
+        ≡ text.old.items ++ (before.now ++ decimal count ++ after.now ++ line_feed ∷ [])) }
+{
+    text.extend_from_slice(before)?;
+    text.extend_from_slice(Buffer::new().format(count).as_bytes())?;
+    text.extend_from_slice(after)?;
+    text.push(b'\n')?;
+    Ok(())
+}
+
+/// Adds an entry's closing text after a space, where it has one.
+fn push_closing(text: &mut Vec<u8>, closing: &[u8]) -> Result<(), AllocError>
+    ensures { OnOk result (text.new.items ≡ text.old.items ++ closing_text closing.now) }
+{
+    if closing.is_empty() {
+        return Ok(());
+    }
+    text.push(b' ')?;
+    text.extend_from_slice(closing)
+}
+
+/// Adds an entry's line after its `dup N` or `/NAME`.
+fn push_data(
+    text: &mut Vec<u8>,
+    operator: &[u8],
+    charstring: &[u8],
+    closing: &[u8],
+) -> Result<(), AllocError>
+    ensures { OnOk result
+        (text.new.items ≡ entry_text text.old.items operator.now charstring.now closing.now) }
+{
+    text.push(b' ')?;
+    text.extend_from_slice(Buffer::new().format(charstring.len()).as_bytes())?;
+    text.push(b' ')?;
+    text.extend_from_slice(operator)?;
+    text.push(b' ')?;
+    text.extend_from_slice(charstring)?;
+    push_closing(text, closing)?;
+    text.push(b'\n')?;
+    Ok(())
+}
+
+/// Adds the line of a Subr.
+#[tactic(auto, using(crate::proofs::PrivateLaws::headed))]
+fn push_subr(
+    text: &mut Vec<u8>,
+    operator: &[u8],
+    number: u16,
+    charstring: &[u8],
+    closing: &[u8],
+) -> Result<(), AllocError>
+    ensures { OnOk result
+        (text.new.items
+        ≡ text.old.items
+        ++ entry_text (codes "dup " ++ decimal number) operator.now charstring.now
+        closing.now) }
+{
+    text.extend_from_slice(b"dup ")?;
+    text.extend_from_slice(Buffer::new().format(number).as_bytes())?;
+    push_data(text, operator, charstring, closing)
+}
+
+/// Adds the line of a glyph.
+#[tactic(auto, using(crate::proofs::PrivateLaws::headed))]
+fn push_glyph(
+    text: &mut Vec<u8>,
+    operator: &[u8],
+    name: &[u8],
+    charstring: &[u8],
+    closing: &[u8],
+) -> Result<(), AllocError>
+    ensures { OnOk result
+        (text.new.items
+        ≡ text.old.items
+        ++ entry_text (slash ∷ name.now) operator.now charstring.now closing.now) }
+{
+    text.push(b'/')?;
+    text.extend_from_slice(name)?;
+    push_data(text, operator, charstring, closing)
+}
+
+/// Puts the encrypted charstring of a Subr in the place of what the buffer holds.
+fn encrypt_subr(code: &mut Vec<u8>, lead: u8, number: u16, words: &Words) -> Result<(), Refusal>
+    ensures { Gives (λ _. code.new.items) result
+        (reported_at (places.Subr number) (encrypted_words lead words.now)) }
+{
+    match encrypt_words(code, lead, words) {
+        Err(refusal) => Err(refusal.at(Place::Subr(number))),
+        encrypted => encrypted,
+    }
+}
+
+/// Puts the encrypted charstring of a glyph in the place of what the buffer holds.
+#[tactic(auto, using(t1_frac::proofs::OutcomeLaws::refuses_at))]
+fn encrypt_glyph(
+    alloc: Global,
+    code: &mut Vec<u8>,
+    lead: u8,
+    name: &[u8],
+    words: &Words,
+) -> Result<(), Refusal>
+    ensures { Gives (λ _. code.new.items) result
+        (reported_at (places.Glyph name.now) (encrypted_words lead words.now)) }
+{
+    match encrypt_words(code, lead, words) {
+        Err(refusal) => Err(refusal.at_glyph(alloc, name)),
+        encrypted => encrypted,
+    }
+}
+
+/// Adds the line of an item. `code` is a buffer for an entry's charstring, whose length stands
+/// before it in the line; what it holds doesn't matter.
+#[tactic(auto, using(crate::proofs::PrivateLaws::entry_fault))]
+fn push_item(
+    alloc: Global,
+    text: &mut Vec<u8>,
+    code: &mut Vec<u8>,
+    lead: u8,
+    operator: &[u8],
+    item: &ItemRef,
+) -> Result<(), Refusal>
+    ensures { Gives (λ _. text.new.items) result
+        (put_after text.old.items (item_line lead operator.now (item_of item.now))) }
+{
+    match item {
+        ItemRef::Plain(line) => Ok(push_line(text, line)?),
+        ItemRef::Section(before, count, after) => Ok(push_section(text, before, *count, after)?),
+        ItemRef::Subr(number, words, closing) => {
+            encrypt_subr(code, lead, *number, words)?;
+            Ok(push_subr(text, operator, *number, code, closing)?)
+        }
+        ItemRef::Glyph(name, words, closing) => {
+            encrypt_glyph(alloc, code, lead, name, words)?;
+            Ok(push_glyph(text, operator, name, code, closing)?)
+        }
+    }
+}
+
+/// The private text of the items, or the first fault of a body, at its entry.
+fn private_text_of(
+    alloc: Global,
+    lead: u8,
+    operator: &[u8],
+    items: &Items,
+) -> Result<Vec<u8>, Refusal>
+    ensures { Gives (λ text. text.items) result (private_text lead operator.now items.now) }
+{
+    let mut text = Vec::new(alloc);
+    let mut code = Vec::new(alloc);
+    for item in items.iter() {
+        push_item(alloc, &mut text, &mut code, lead, operator, &item)?;
+    }
+    Ok(text)
+}
+
+/// How long the private text of the items is, up to 2^64 - 1, or the first fault of a body, at its
+/// entry. Each line is made in the place of the one before it.
+pub(crate) fn private_text_len(
+    alloc: Global,
+    lead: u8,
+    operator: &[u8],
+    items: &Items,
+) -> Result<usize, Refusal>
+    ensures { Gives (λ len. len) result (private_length lead operator.now items.now) }
+{
+    let mut line = Vec::new(alloc);
+    let mut code = Vec::new(alloc);
+    let mut total: usize = 0;
+    for item in items.iter() {
+        line.clear();
+        push_item(alloc, &mut line, &mut code, lead, operator, &item)?;
+        total = total.saturating_add(line.len());
+    }
+    Ok(total)
+}
 
 /// The text of the clear part: its lines, each with its end.
 pub fn clear_text(alloc: Global, lines: &[Bytes]) -> Result<Vec<u8>, AllocError>
@@ -40,26 +235,6 @@ pub fn trailer(alloc: Global, tail: &[Bytes]) -> Result<Vec<u8>, AllocError>
     Ok(text)
 }
 
-/// Writes the file of three parts in a form, or answers F23 with nothing written.
-fn write_parts<F: FileForm, W: Write>(
-    form: &F,
-    clear: &[u8],
-    private: &[u8],
-    trailer: &[u8],
-    out: &mut Counted<W>,
-) -> Result<(), OutError>
-    ensures { Prints W.contents out.old out.new (F.file form.now clear.now private.now trailer.now)
-        result }
-{
-    let pieces = [Piece::Plain(private)];
-    let parts = Parts {
-        clear,
-        pieces: &pieces,
-        trailer,
-    };
-    write_file(form, &parts, out)
-}
-
 /// Writes the file of a source in a form, by its private text: the whole file at `Ok`, a beginning
 /// of it at `Write`. A fault is F23; nothing is written then, nor where memory runs out.
 fn write_private<F: FileForm, W: Write>(
@@ -75,7 +250,13 @@ fn write_private<F: FileForm, W: Write>(
 {
     let clear = clear_text(alloc, source.clear())?;
     let trailer = trailer(alloc, source.tail())?;
-    write_parts(form, &clear, private, &trailer, out)
+    let pieces = [Piece::Plain(private)];
+    let parts = Parts {
+        clear: &clear,
+        pieces: &pieces,
+        trailer: &trailer,
+    };
+    write_file(form, &parts, out)
 }
 
 /// Writes the file of a source in a form: the whole file at `Ok`, a beginning of it at `Write`. A
@@ -89,7 +270,12 @@ fn write_source<F: FileForm, W: Write>(
 ) -> Result<(), OutError>
     ensures { Prints W.contents out.old out.new (file_in (F.file form.now) source.now) result }
 {
-    let private = private_text_of(alloc, source.lead(), source.operator(), source.items())?;
+    let private = private_text_of(
+        alloc,
+        source.lead(),
+        operator_of(source.items().iter()),
+        source.items(),
+    )?;
     write_private(alloc, source, form, &private, out)
 }
 

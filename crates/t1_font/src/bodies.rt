@@ -14,33 +14,11 @@ ghost use Rattle.t1_font.specs.KeptBodies.{subr_body_kept, SameBodies};
 
 use indexmap::IndexMap;
 use std::alloc::Global;
-use t1_code::{Body, compile};
+use t1_code::{Body, compiled_glyph, compiled_subr};
 use t1_frac::{Place, Refusal, Words};
 use t1_parts::Items;
 use t1_run::Plain;
 use t1_source::Item;
-
-/// The commands of a Subr's words, or their fault with the Subr's number.
-pub fn compiled_subr(alloc: Global, number: u16, words: &Words) -> Result<Body, Refusal>
-    ensures { Gives (λ body. body) result (reported_at (places.Subr number) (commands words.now)) }
-{
-    match compile(alloc, words) {
-        Err(refusal) => Err(refusal.at(Place::Subr(number))),
-        compiled => compiled,
-    }
-}
-
-/// The commands of a glyph's words, or their fault with the glyph's name.
-#[tactic(auto, using(t1_frac::proofs::OutcomeLaws::refuses_at))]
-pub fn compiled_glyph(alloc: Global, name: &[u8], words: &Words) -> Result<Body, Refusal>
-    ensures { Gives (λ body. body) result
-        (reported_at (places.Glyph name.now) (commands words.now)) }
-{
-    match compile(alloc, words) {
-        Err(refusal) => Err(refusal.at_glyph(alloc, name)),
-        compiled => compiled,
-    }
-}
 
 /// Adds the body of a Subr, where there is none of its number.
 #[tactic(auto, unfolding(crate::specs::Bodies::words_check))]

@@ -14,9 +14,8 @@ ghost use Rattle.t1_font.specs.Assembly.{private_text, source_file};
 ghost use Rattle.t1_source.specs.WellFormed.{is_counted};
 ghost use Rattle.t1_font.specs.Lengths.{IsPrivateLen};
 
-use crate::assembly::ZEROS_LEN;
+use crate::assembly::{ZEROS_LEN, private_text_len};
 use crate::bodies::compiled;
-use crate::private::private_text_len;
 use itoa::Buffer;
 use std::alloc::Global;
 use t1_code::{EEXEC_LEAD, MAX_PART};

@@ -51,7 +51,6 @@ pub mod laws;
 mod lengths;
 mod numbers;
 mod owned_key;
-mod private;
 mod reported;
 mod runs;
 mod source_bodies;
@@ -62,7 +61,7 @@ mod usage;
 
 pub use afm_file::{afm_text, write_source_afm};
 pub use assembly::{clear_text, trailer, write_source_pfa, write_source_pfb};
-pub use bodies::{compiled, compiled_glyph, compiled_subr};
+pub use bodies::compiled;
 pub use chars_by_code::CharsByCode;
 pub use font_metrics::{header, metrics};
 pub use glyph_metrics::{GlyphMetrics, PlacedParts, glyph_metrics_of, metrics_of_run};

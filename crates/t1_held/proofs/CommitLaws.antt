@@ -36,7 +36,7 @@ use Rattle.t1_held.specs.Members.{HaveSameKeys}
 use Rattle.t1_held.proofs.Members.{same_stale, same_stale_glyphs}
 use Rattle.t1_held.specs.declared.held.Held.{Held}
 use Rattle.t1_held.specs.Entries.{fresh_in, fresh_one, gone_keys}
-use Rattle.t1_held.specs.declared.edits.Edits.{Edits}
+use Rattle.t1_held.specs.declared.preparing.Edits.{Edits}
 use Rattle.t1_held.specs.Edits.{AreChanges, AreRight}
 use Rattle.t1_held.specs.Ready.{commit_runs}
 use Rattle.t1_held.specs.Held.{IsHeld}

@@ -14,7 +14,7 @@ use Rattle.t1_font.specs.Bodies.{bodies}
 use Rattle.t1_parts.specs.Printing.{text}
 use Rattle.t1_parts.specs.Reading.{reads}
 use Rattle.t1_source.specs.declared.edit.Edit.{Edit}
-use Rattle.t1_source.specs.declared.editing.change.Change.{Change}
+use Rattle.t1_source.specs.declared.editing.Change.{Change}
 use Rattle.t1_pairs.specs.declared.pairs.Pair.{Pair}
 use Rattle.t1_source.specs.Changes.{changed, IsFor}
 use Rattle.t1_source.specs.EditedSource.{made_of, EditedParts}
@@ -48,7 +48,7 @@ use Rattle.t1_rerun.proofs.ChangedBodies.{as-list, IsChangeOf, alone}
 use Rattle.t1_rerun.proofs.Judged.{still-right}
 use Rattle.t1_held.specs.declared.held.Held.{Held}
 use Rattle.t1_held.specs.Held.{IsHeld}
-use Rattle.t1_held.specs.declared.edits.Edits.{Edits}
+use Rattle.t1_held.specs.declared.preparing.Edits.{Edits}
 use Rattle.t1_held.specs.Batch.{EntryEdit, keys}
 use Rattle.t1_held.specs.Drafting.{IsEditedBy}
 use Rattle.t1_held.specs.Edits.{AreChanges, AreRight, IsPreparedEdit}

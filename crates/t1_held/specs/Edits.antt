@@ -3,7 +3,7 @@ use Rattle.std.specs.Prelude.{◌≡◌, List, Ok, IfSome}
 use Rattle.std.specs.List.{list_any, AllByRecursion}
 use Rattle.t1_parts.specs.SourceParts.{SourceParts}
 use Rattle.t1_source.specs.declared.edit.Edit.{Edit}
-use Rattle.t1_source.specs.declared.editing.change.Change.{Change}
+use Rattle.t1_source.specs.declared.editing.Change.{Change}
 use Rattle.t1_pairs.specs.declared.pairs.Pair.{Pair}
 use Rattle.t1_source.specs.Changes.{changed, IsFor, Suits}
 use Rattle.t1_source.specs.EditedSource.{made_of}
@@ -18,7 +18,7 @@ use Rattle.t1_cache.specs.Edited.{IsEditedAt}
 use Rattle.t1_rerun.specs.declared.entry_change.EntryChange.{EntryChange}
 use Rattle.t1_rerun.specs.Changing.{AreChangesOf}
 use Rattle.t1_rerun.specs.Settled.{changed_keys, AreDistinctKeys, HasBody}
-use Rattle.t1_held.specs.declared.edits.Edits.{Edits}
+use Rattle.t1_held.specs.declared.preparing.Edits.{Edits}
 use Rattle.t1_held.specs.declared.held.Held.{Held}
 use Rattle.t1_held.specs.Held.{IsHeld}
 

@@ -25,8 +25,6 @@
 //!   what became of these entries, or the first fault of one (`AreBatchChanges`).
 
 mod batch;
-mod edits;
-mod entries;
 mod files;
 mod held;
 mod hints;

@@ -5,7 +5,7 @@ use Rattle.std.specs.Borrow.{Bor}
 use Rattle.t1_text.specs.Tokens.{places_from}
 use Rattle.t1_parts.specs.declared.item.Item.{Item}
 use Rattle.t1_parts.specs.declared.item.Item.TheVariants.{Plain}
-use Rattle.t1_parts.specs.declared.line_kind.LineKind.{LineKind}
+use Rattle.t1_parts.specs.declared.private.LineKind.{LineKind}
 use Rattle.t1_parts.specs.Entries.{NumberedItem, has_numbered}
 use Rattle.t1_parts.specs.LineKinds.{IsCountOf, IsOfKind}
 use Rattle.t1_parts.specs.NumberedStretches.{numbered_lines}

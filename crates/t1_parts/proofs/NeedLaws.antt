@@ -4,7 +4,7 @@ use Rattle.std.specs.List.{insert, remove, slice_index_or, slice_set}
 use Rattle.std.proofs.lemmas.List.Sums.{sum_by-cons, sum_by-append, count_by-le-length}
 use Rattle.t1_parts.specs.declared.item.Item.{Item}
 use Rattle.t1_parts.specs.declared.item.Item.TheVariants.{Plain, Section, Subr, Glyph}
-use Rattle.t1_parts.specs.declared.needs.Needs.{Needs}
+use Rattle.t1_parts.specs.declared.starts.Needs.{Needs}
 use Rattle.t1_parts.specs.Counts.{subrs_needed, glyphs_needed, is_glyph_entry, raised_item}
 use Rattle.t1_parts.specs.Items.{line_items}
 use Rattle.t1_parts.specs.Needs.{AreNeeded}

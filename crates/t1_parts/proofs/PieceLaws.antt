@@ -15,8 +15,8 @@ use Rattle.t1_text.proofs.WholeLines.{whole, left, lines_over, whole_count, whol
 use Rattle.t1_text.proofs.CutLaws.{after_within}
 use Rattle.t1_parts.specs.declared.body.EntryBody.{EntryBody}
 use Rattle.t1_parts.specs.Entries.{body_of, closes, has_brace, with_front}
-use Rattle.t1_parts.specs.declared.piece.BodyFront.{BodyFront}
-use Rattle.t1_parts.specs.declared.piece.BodyFront.TheVariants.{Commented, Closed, Open}
+use Rattle.t1_parts.specs.declared.body.BodyFront.{BodyFront}
+use Rattle.t1_parts.specs.declared.body.BodyFront.TheVariants.{Commented, Closed, Open}
 use Rattle.t1_parts.specs.Pieces.{AreLinesAfter}
 use Rattle.t1_parts.proofs.BodyLaws.{no_brace, no_comment}
 use Rattle.t1_parts.proofs.PartLaws.{ap_both, cut_dropped, longer}

@@ -3,8 +3,8 @@ use Rattle.std.specs.Prelude.{◌≡◌, ◌+◌, ◌≤◌, ℕ, Bool, true, fa
 use Rattle.std.specs.Borrow.{Bor}
 use Rattle.t1_text.specs.Names.{is_count}
 use Rattle.t1_text.specs.Tokens.{tokens, places_from}
-use Rattle.t1_parts.specs.declared.line_kind.LineKind.{LineKind}
-use Rattle.t1_parts.specs.declared.line_kind.LineKind.TheVariants.{Among, Subr, Glyph, Alone}
+use Rattle.t1_parts.specs.declared.private.LineKind.{LineKind}
+use Rattle.t1_parts.specs.declared.private.LineKind.TheVariants.{Among, Subr, Glyph, Alone}
 use Rattle.t1_parts.specs.Entries.{opens_subr, opens_glyph}
 use Rattle.t1_parts.specs.PlainRuns.{may_open_entry, IsPlainAmong}
 use Rattle.t1_parts.specs.Sections.{count_between}

@@ -1,7 +1,7 @@
 -- What entries ask of the counts of their sections.
 use Rattle.std.specs.Prelude.{◌≡◌, List}
 use Rattle.t1_parts.specs.declared.item.Item.{Item}
-use Rattle.t1_parts.specs.declared.needs.Needs.{Needs}
+use Rattle.t1_parts.specs.declared.starts.Needs.{Needs}
 use Rattle.t1_parts.specs.Counts.{subrs_needed, glyphs_needed}
 
 -- word, sections: this is what items ask of the counts of their sections

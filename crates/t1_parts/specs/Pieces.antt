@@ -3,8 +3,8 @@ use Rattle.std.specs.Prelude.{◌≡◌, ◌≤◌, ◌+◌, ℕ, Some, None, Li
 use Rattle.t1_frac.specs.Words.{words}
 use Rattle.t1_text.specs.Lines.{lines}
 use Rattle.t1_text.specs.LineEnds.{line_ends}
-use Rattle.t1_parts.specs.declared.piece.BodyFront.{BodyFront}
-use Rattle.t1_parts.specs.declared.piece.BodyFront.TheVariants.{Commented, Closed, Open}
+use Rattle.t1_parts.specs.declared.body.BodyFront.{BodyFront}
+use Rattle.t1_parts.specs.declared.body.BodyFront.TheVariants.{Commented, Closed, Open}
 use Rattle.t1_parts.specs.Entries.{body_of, with_front}
 
 -- word: the lines of the second bytes are those of the first after so many

@@ -5,7 +5,7 @@ ghost use Rattle.t1_parts.specs.Items.{items_in};
 ghost use Rattle.t1_parts.specs.Stretches.{one_item, stands_alone, IsNextAlone};
 
 use crate::item::Item;
-use crate::len_iv::line_says;
+use crate::private::line_says;
 use crate::stretch::Stretch;
 use std::marker::Model;
 use std::slice;

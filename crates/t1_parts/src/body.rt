@@ -1,4 +1,4 @@
-//! The bodies of entries: words, comments, closing text.
+//! Subrs and glyphs as they stand, and their bodies: words, comments, closing text.
 
 ghost use Rattle.std.specs.Prelude.{◌≡◌, ◌≤◌, ◌+◌, ◌==◌, ◌∷◌, ℕ, List, length, drop, IfOk, IfSome};
 ghost use Rattle.std.specs.Prelude.{option_map};
@@ -7,14 +7,49 @@ ghost use Rattle.t1_frac.specs.Ascii.{open_brace};
 ghost use Rattle.t1_text.specs.Lines.{lines};
 ghost use Rattle.t1_text.specs.Tokens.{uncommented};
 ghost use Rattle.t1_text.specs.Delimiters.{is_brace};
-ghost use Rattle.t1_parts.specs.Entries.{has_brace, body_of, opened_body};
-ghost use Rattle.t1_parts.specs.Pieces.{AreLinesAfter};
+ghost use Rattle.t1_parts.specs.Entries.{has_brace, body_of, opened_body, subr_entry, glyph_entry};
+ghost use Rattle.t1_parts.specs.Pieces.{AreLinesAfter, IsPiece};
+ghost use Rattle.t1_parts.specs.EntryNames.{glyph_name};
+ghost use Rattle.t1_frac.specs.declared.fault.Place.TheVariants as places;
+ghost use Rattle.t1_frac.specs.Outcome.{Gives, reported_at};
 
-use crate::piece::{BodyFront, piece_of};
+use crate::gathered::Gathered;
+use crate::item::{Item, Taken};
 use memchr::{memchr, memchr2};
 use std::alloc::{AllocError, Global};
-use t1_frac::{OwnedWords, SourceText, Words};
-use t1_text::line_ends;
+use t1_frac::{Code, OwnedWords, Refusal, SourceText, Words};
+use t1_text::{
+    cut_line, decimal_up_to, fault_on, first_delimiter, line_ends, name_of_token, trimmed,
+};
+
+/// What stands at the front of the bytes of a body.
+#[derive(Drop)]
+pub enum BodyFront<'a> {
+    /// Bytes before a comment, and those after the comment's line.
+    Commented(&'a [u8], &'a [u8]),
+    /// Bytes before the brace that ends the body, the closing text, and the bytes after its line.
+    Closed(&'a [u8], &'a [u8], &'a [u8]),
+    /// The body isn't ended.
+    Open,
+}
+
+/// The piece at the front of the bytes of a body.
+pub fn piece_of(bytes: &[u8]) -> BodyFront<'_>
+    ensures { IsPiece bytes.now result }
+{
+    let (front, back) = bytes.split_at(first_delimiter(bytes));
+    let Some((delimiter, rest)) = back.split_first() else {
+        return BodyFront::Open;
+    };
+    let (line, after) = cut_line(rest);
+    if *delimiter == b'%' {
+        return BodyFront::Commented(front, after);
+    }
+    if *delimiter == b'}' {
+        return BodyFront::Closed(front, trimmed(line), after);
+    }
+    BodyFront::Open
+}
 
 /// The words of an entry, its closing text, and how many lines it takes after its first.
 #[derive(Drop)]
@@ -131,4 +166,84 @@ pub fn opened_body<'a>(
 {
     let text = bytes.split_at(opening_end(line)).1;
     body_of(alloc, text)
+}
+
+/// The Subr entry that opens on a line.
+#[tactic(auto, unfolding(crate::specs::Entries::subr_entry))]
+pub fn subr_entry<'a>(
+    alloc: Global,
+    earlier: &Gathered,
+    number: u64,
+    token: &[u8],
+    line: &[u8],
+    bytes: &'a [u8],
+) -> Result<Taken<'a>, Refusal>
+    requires { length line.now ≤ length bytes.now }
+    ensures value { (ls : List (List ℕ))
+        → lines bytes.now ≡ line.now ∷ ls
+        → Gives (λ taken. (taken.item, taken.more)) result
+        (reported_at (places.Line number)
+        (subr_entry earlier.now token.now (opened_body line.now ls))) }
+    ensures named { IfOk result
+        (λ taken. option_map (λ n. n.now) taken.name ≡ glyph_name taken.item) }
+    ensures after { (ls : List (List ℕ))
+        → lines bytes.now ≡ line.now ∷ ls
+        → IfOk result (λ taken. AreLinesAfter (taken.more + 1) bytes.now taken.after.now) }
+{
+    let Some(subr) = decimal_up_to(32000, token) else {
+        return Err(Refusal::from(fault_on(number, Code::F8)));
+    };
+    let subr = subr as u16;
+    if earlier.has_subr(subr) {
+        return Err(Refusal::from(fault_on(number, Code::F9)));
+    }
+    let Some((body, after)) = opened_body(alloc, line, bytes)? else {
+        return Err(Refusal::from(fault_on(number, Code::F7)));
+    };
+    Ok(Taken {
+        item: Item::Subr(subr, body.words, body.closing),
+        name: None,
+        more: body.more,
+        after,
+    })
+}
+
+/// The glyph entry that opens on a line.
+#[tactic(auto, unfolding(crate::specs::Entries::glyph_entry))]
+pub fn glyph_entry<'a>(
+    alloc: Global,
+    earlier: &Gathered,
+    number: u64,
+    token: &'a [u8],
+    line: &[u8],
+    bytes: &'a [u8],
+) -> Result<Taken<'a>, Refusal>
+    requires { length line.now ≤ length bytes.now }
+    ensures value { (ls : List (List ℕ))
+        → lines bytes.now ≡ line.now ∷ ls
+        → Gives (λ taken. (taken.item, taken.more)) result
+        (reported_at (places.Line number)
+        (glyph_entry earlier.now token.now (opened_body line.now ls))) }
+    ensures named { IfOk result
+        (λ taken. option_map (λ n. n.now) taken.name ≡ glyph_name taken.item) }
+    ensures after { (ls : List (List ℕ))
+        → lines bytes.now ≡ line.now ∷ ls
+        → IfOk result (λ taken. AreLinesAfter (taken.more + 1) bytes.now taken.after.now) }
+{
+    let Some(name) = name_of_token(token) else {
+        return Err(Refusal::from(fault_on(number, Code::F8)));
+    };
+    if earlier.has_glyph(name) {
+        return Err(Refusal::from(fault_on(number, Code::F10)));
+    }
+    let Some((body, after)) = opened_body(alloc, line, bytes)? else {
+        return Err(Refusal::from(fault_on(number, Code::F7)));
+    };
+    let glyph = SourceText::borrowed(name);
+    Ok(Taken {
+        item: Item::Glyph(glyph, body.words, body.closing),
+        name: Some(name),
+        more: body.more,
+        after,
+    })
 }

@@ -1,7 +1,8 @@
-//! The items read so far.
+//! The items of a private part, gathered from its lines, and what is judged of them as a whole.
 
 ghost use Rattle.std.specs.Prelude.{◌≡◌, ◌<◌, ◌+◌, ◌^◌, ◌∷◌, [], ◌++◌, length, IfOk, OnOk};
-ghost use Rattle.std.specs.Prelude.{option_map};
+ghost use Rattle.std.specs.Prelude.{option_map, filter_map};
+ghost use Rattle.t1_frac.specs.Outcome.{Gives};
 ghost use Rattle.t1_text.specs.Lines.{lines};
 ghost use Rattle.t1_parts.specs.Sections.{is_subrs_line, is_glyphs_line};
 ghost use Rattle.t1_parts.specs.Entries.{has_numbered, is_subr, is_glyph};
@@ -9,19 +10,23 @@ ghost use Rattle.t1_parts.specs.EntryNames.{glyph_name};
 ghost use Rattle.std.specs.List.{find};
 ghost use Rattle.t1_parts.specs.declared.stretch.Stretch.TheVariants as kinds;
 ghost use Rattle.t1_parts.specs.Gathered.{KeepsNames, KeepsNumbers};
-ghost use Rattle.t1_parts.specs.LenIV.{says_lead};
+ghost use Rattle.t1_parts.specs.LenIV.{says_lead, said_with_line, lead_check};
 ghost use Rattle.t1_parts.specs.NumberedStretches.{numbered_in, numbered_lines};
-ghost use Rattle.t1_parts.specs.Reading.{unnumbered};
+ghost use Rattle.t1_parts.specs.Private.{items_of, private_items};
+ghost use Rattle.t1_parts.specs.Reading.{unnumbered, whole_check};
 
 use crate::item::Item;
 use crate::items::Items;
+use crate::len_iv::lead_on;
 use crate::plain_lines::{PlainLines, next_line};
+use crate::private::read_front;
 use crate::stretch::Stretch;
 use indexmap::IndexSet;
 use std::alloc::{AllocError, Global};
 use std::collections::BTreeSet;
 use std::marker::Model;
-use t1_frac::SourceText;
+use t1_frac::{Code, Fault, Refusal, SourceText};
+use t1_text::fault_on;
 
 /// As many plain lines that follow one another stand together at least. Where fewer do, they stand
 /// one by one, so that a font of entries with a few lines between them has no lines that stand
@@ -315,4 +320,67 @@ impl<'a> Gathered<'a> {
             glyphs,
         })
     }
+}
+
+/// The items of some bytes, of which the first line has this number, each with the number of its
+/// first line; and the number that a further line has.
+fn items_of(alloc: Global, number: u64, bytes: &[u8]) -> Result<(Gathered<'_>, u64), Refusal>
+    requires { number + length bytes.now < 2 ^ 64 }
+    ensures value { Gives (λ read. read.0) result (items_of number (lines bytes.now)) }
+    ensures number { IfOk result (λ read. read.1 ≡ number + length (lines bytes.now)) }
+{
+    let mut items = Gathered::for_bytes(alloc, bytes.len())?;
+    let mut first = number;
+    let mut rest = bytes;
+    while !rest.is_empty() {
+        let (more, next, after) = read_front(alloc, items, first, rest)?;
+        items = more;
+        first = next;
+        rest = after;
+    }
+    Ok((items, first))
+}
+
+/// The items of a private part, of which the last line opens nothing. The first of its lines has
+/// this number.
+#[tactic(auto, using(crate::proofs::ItemLaws::last_refused))]
+pub(crate) fn private_items<'a>(
+    alloc: Global,
+    number: u64,
+    bytes: &'a [u8],
+    last: &'a [u8],
+) -> Result<Gathered<'a>, Refusal>
+    requires { number + length bytes.now < 2 ^ 64 }
+    ensures { Gives (λ items. items) result
+        (private_items number (lines bytes.now ++ last.now ∷ [])) }
+{
+    let (items, further) = items_of(alloc, number, bytes)?;
+    let last = Item::Plain(SourceText::borrowed(last));
+    Ok(items.with(further, last, None)?)
+}
+
+/// The lenIV of some items with their lines, or its fault.
+#[tactic(auto, using(crate::proofs::LeadLaws::checked_well, crate::proofs::LeadLaws::checked_ill, crate::proofs::LeadLaws::checked_nowhere))]
+fn check_lead(items: &Gathered) -> Result<u8, Fault>
+    ensures { result ≡ lead_check (filter_map said_with_line items.now) }
+{
+    let Some((number, item)) = items.first_saying() else {
+        return Ok(4);
+    };
+    let Some(lead) = lead_on(item) else {
+        return Err(fault_on(number, Code::F11));
+    };
+    Ok(lead)
+}
+
+/// Judges the items of a private part as a whole.
+#[tactic(auto, unfolding(crate::specs::Reading::whole_check))]
+pub(crate) fn check_whole(items: &Gathered) -> Result<(), Fault>
+    ensures { result ≡ whole_check items.now }
+{
+    if !items.has_glyphs_line() {
+        return Err(Fault::from(Code::F3));
+    }
+    let _lead = check_lead(items)?;
+    Ok(())
 }

@@ -6,30 +6,31 @@ ghost use Rattle.std.specs.Prelude.{option_map, IfSome};
 ghost use Rattle.std.specs.List.{insert, list_any, position, remove, slice_get};
 ghost use Rattle.std.specs.List.{slice_index_or};
 ghost use Rattle.t1_parts.specs.declared.item.Item.{Item};
-ghost use Rattle.t1_parts.specs.Counts.{raised_item, subrs_needed, glyphs_needed};
+ghost use Rattle.t1_parts.specs.Counts.{raised_item, subrs_needed, glyphs_needed, raised};
 ghost use Rattle.t1_parts.specs.EntryKeys.{is_entry_of, is_of_kind, is_section};
 ghost use Rattle.t1_parts.specs.EntryKeys.{IsEntryAt, IsThrough};
 ghost use Rattle.t1_parts.specs.Items.{items_in};
+ghost use Rattle.t1_parts.specs.Starts.{IsEntryOnIts};
 ghost use Rattle.t1_parts.specs.Stretches.{AreSingle, StandsAloneAt};
 ghost use Rattle.t1_parts.specs.ItemRefs.{item_of};
 ghost use Rattle.t1_parts.specs.LenIV.{lead_among, says_lead};
 
-use crate::entry_counts::EntryCounts;
 use crate::entry_key::{EntryKey, ItemKind};
-use crate::entry_places::{entry_before, place_of_entry, through_last};
 use crate::item::Item;
 use crate::item_ref::ItemRef;
 use crate::items_iter::{ItemsIter, item_before, items_among, items_between};
-use crate::len_iv::lead_of;
-use crate::needs::{
-    Needs, ask_the_same, needs_after, needs_among, needs_of, needs_without, together,
-};
 use crate::section_ends::{end_inserted, end_pushed, end_put, end_removed};
-use crate::starts::starts_of;
+use crate::starts::{
+    EntryCounts, Needs, ask_the_same, lead_after, lead_in, needs_after, needs_among, needs_of,
+    needs_without, starts_of, together,
+};
 use crate::stretch::Stretch;
 use crate::stretches::Stretches;
 use std::alloc::{AllocError, Global};
 use std::marker::Model;
+
+/// How many stretches before an end are looked at for an entry that should stand there.
+const FEW: usize = 32;
 
 /// The items of a private part. Plain lines that follow one another may stand together, as the
 /// bytes that were read. Their lenIV is kept, what they ask of the counts of their sections, and a
@@ -74,25 +75,56 @@ fn says_either(old: &ItemRef, new: &Item) -> bool
     old.says_lead() || new.as_ref().says_lead()
 }
 
-/// The lenIV of some stretches, which have so many items.
-fn lead_in(stretches: &[Stretch], len: usize) -> u8
-    requires { len ≡ length (items_in stretches.now) }
-    ensures { result ≡ lead_among (items_in stretches.now) }
+/// Where the entry of a key stands.
+fn place_of_entry(stretches: &[Stretch], key: &EntryKey) -> Option<usize>
+    requires { length (items_in stretches.now) < 2 ^ 64 }
+    ensures value { result ≡ position (is_entry_of key.now) (items_in stretches.now) }
+    ensures within { IfSome result (λ at. at < length (items_in stretches.now)) }
 {
-    lead_of(items_among(stretches, len))
+    let mut passed: usize = 0;
+    for stretch in stretches {
+        if let Some(_entry) = stretch.entry_of(key) {
+            return Some(passed);
+        }
+        passed += stretch.len();
+    }
+    None
 }
 
-/// The lenIV of some stretches after an edit: the one before it, where nothing that was put in or
-/// taken out says lenIV.
-fn lead_after(stretches: &[Stretch], len: usize, lead: u8, is_said: bool) -> u8
-    requires len { len ≡ length (items_in stretches.now) }
-    requires same { is_said ≡ false → lead ≡ lead_among (items_in stretches.now) }
-    ensures { result ≡ lead_among (items_in stretches.now) }
+/// The index of the stretch that is the entry of a key, where it is one of the few before an end.
+fn entry_before(stretches: &[Stretch], end: usize, key: &EntryKey) -> Option<usize>
+    requires { end ≤ length stretches.now }
+    ensures { IfSome result (IsEntryOnIts key.now stretches.now) }
 {
-    if is_said {
-        return lead_in(stretches, len);
+    for back in 0..FEW {
+        if end <= back {
+            return None;
+        }
+        let index = end - back - 1;
+        let stretch = &stretches[index];
+        if let Some(_entry) = stretch.entry_of(key) {
+            return Some(index);
+        }
     }
-    lead
+    None
+}
+
+/// How many items stand through the last one of a kind, in stretches of so many items.
+fn through_last(stretches: &[Stretch], len: usize, kind: ItemKind) -> usize
+    requires { len ≡ length (items_in stretches.now) }
+    ensures { IsThrough (is_of_kind kind) (items_in stretches.now) result }
+{
+    let mut through = len;
+    let mut index = stretches.len();
+    while 0 < index {
+        index -= 1;
+        let stretch = &stretches[index];
+        if let Some(_last) = stretch.of_kind(kind) {
+            return through;
+        }
+        through -= stretch.len();
+    }
+    0
 }
 
 impl<'a> Items<'a> {
@@ -403,4 +435,13 @@ impl<'a> Items<'a> {
         let end = self.stretches.through(self.sections_end);
         self.stretches.raise_counts(end, subrs, glyphs);
     }
+}
+
+/// Raises the counts of the section lines to what is needed, in their places.
+pub fn raise(items: &mut Items)
+    ensures { items.new ≡ raised items.old }
+{
+    let subrs = items.subrs_needed();
+    let glyphs = items.glyphs_needed();
+    items.raise_counts(subrs, glyphs);
 }

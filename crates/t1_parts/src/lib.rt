@@ -11,12 +11,8 @@
 
 mod alone_items;
 mod body;
-mod counts;
 mod encoding;
-mod entries;
-mod entry_counts;
 mod entry_key;
-mod entry_places;
 mod gathered;
 mod header;
 mod item;
@@ -24,15 +20,11 @@ mod item_ref;
 mod items;
 mod items_iter;
 mod len_iv;
-mod line_kind;
-mod needs;
 mod operator;
 mod parts;
-mod piece;
 mod plain_lines;
 mod printing;
 mod private;
-mod reading;
 mod section_ends;
 mod sections;
 mod starts;
@@ -40,20 +32,20 @@ mod stretch;
 mod stretches;
 
 pub use alone_items::AloneItems;
-pub use body::{EntryBody, body_of, has_brace, opened_body, uncommented};
-pub use counts::{glyphs_needed, raise, subrs_needed};
+pub use body::{
+    BodyFront, EntryBody, body_of, glyph_entry, has_brace, opened_body, piece_of, subr_entry,
+    uncommented,
+};
 pub use encoding::{array_len, array_of, encoding_at, has_standard, slot_of};
-pub use entries::{glyph_entry, opens_glyph, opens_subr, subr_entry};
 pub use entry_key::{EntryKey, ItemKind};
 pub use header::header_of;
 pub use item::{Item, Taken};
 pub use item_ref::ItemRef;
-pub use items::Items;
+pub use items::{Items, raise};
 pub use items_iter::ItemsIter;
-pub use len_iv::lead_of;
 pub use operator::{operator_of, operator_on, text_place};
-pub use parts::{PartBytes, ends_in, holds, parts_of, tail_of};
-pub use piece::{BodyFront, piece_of};
+pub use parts::{PartBytes, ReadParts, ends_in, holds, parts_of, read_parts, tail_of};
 pub use printing::{push_decimal, push_items, push_line, push_lines, push_words};
-pub use reading::{ReadParts, read_parts};
-pub use sections::{count_between, section_at};
+pub use private::{count_between, opens_glyph, opens_subr};
+pub use sections::section_at;
+pub use starts::{glyphs_needed, lead_of, subrs_needed};

@@ -1,18 +1,23 @@
-//! Cutting a source into its parts.
+//! Reading a source, which is cut into its parts.
 
 ghost use Rattle.std.specs.Prelude.{◌≡◌, ◌==◌, ◌++◌, ◌∷◌, ◌<◌, [], false, true, length, IfOk};
 ghost use Rattle.std.specs.Prelude.{MatchOption, codes, if◌then◌else◌, Some, None, Ok, Err};
 ghost use Rattle.std.specs.Prelude.{MatchResult, filter_map};
 ghost use Rattle.std.specs.List.{list_any, list_all};
 ghost use Rattle.t1_frac.specs.Ascii.{digit_zero};
+ghost use Rattle.t1_frac.specs.Outcome.{Gives};
 ghost use Rattle.t1_text.specs.Lines.{is_line, lines};
 ghost use Rattle.t1_parts.specs.Parts.{parts_of, ends_in, holds, is_zeros, tail_of};
 ghost use Rattle.t1_parts.specs.LineCuts.{IsCut, NoneGone};
+ghost use Rattle.t1_parts.specs.Reading.{reads};
 
+use crate::encoding::check_clear;
+use crate::gathered::{check_whole, private_items};
+use crate::items::{Items, raise};
 use memchr::memmem::Finder;
 use std::alloc::{AllocError, Global};
-use t1_frac::{Bytes, Code, Fault};
-use t1_text::{first_line, last_line_start, trimmed};
+use t1_frac::{Bytes, Code, Fault, Refusal};
+use t1_text::{copied_lines, first_line, last_line_start, trimmed};
 
 /// Whether a line, trimmed, ends in this text.
 pub fn ends_in(text: &[u8], line: &[u8]) -> bool
@@ -179,4 +184,38 @@ pub fn tail_of(alloc: Global, bytes: &[u8]) -> Result<Vec<Bytes>, AllocError>
     tail.push(Bytes::copied(alloc, b"cleartomark")?)?;
     tail.append(&mut kept)?;
     Ok(tail)
+}
+
+/// What a source is read as: the lines of its clear part, the items of its private part, and the
+/// lines of its tail.
+#[derive(Drop)]
+pub struct ReadParts<'a> {
+    pub clear: Vec<Bytes>,
+    pub items: Items<'a>,
+    pub tail: Vec<Bytes>,
+}
+
+/// What some bytes are read as. The first fault refuses them: F1 where no line ends the clear part,
+/// F2 where none ends the private part, then F5 and F6 of the clear lines, F4 and F7 to F10 of the
+/// private lines, each from the top and with its line, then F3 and F11. No table of the lines is
+/// made.
+#[tactic(auto, unfolding(crate::specs::Reading::reads, crate::specs::Reading::reads_lines))]
+pub fn read_parts(alloc: Global, bytes: &[u8]) -> Result<ReadParts<'_>, Refusal>
+    ensures { Gives
+        (λ read.
+        record { clear = read.clear.items; items = read.items; tail = read.tail.items })
+        result
+        (reads bytes.now) }
+{
+    let parts = parts_of(bytes)?;
+    let mut clear = copied_lines(alloc, parts.clear)?;
+    clear.push(Bytes::copied(alloc, parts.eexec)?)?;
+    check_clear(&clear)?;
+    let number = clear.as_slice().len() as u64 + 1;
+    let items = private_items(alloc, number, parts.private, parts.closefile)?;
+    check_whole(&items)?;
+    let mut items = items.into_items()?;
+    raise(&mut items);
+    let tail = tail_of(alloc, parts.tail)?;
+    Ok(ReadParts { clear, items, tail })
 }

@@ -1,12 +1,22 @@
-//! How many items stand before each of some stretches.
+//! What is kept of some stretches: how many items, and how many entries, stand before each, their
+//! lenIV, and what their entries ask of the counts of their sections.
 
-ghost use Rattle.std.specs.Prelude.{◌≡◌, ◌<◌, ◌≤◌, ◌-◌, ◌^◌, ℕ, true, length, IfOk};
-ghost use Rattle.std.specs.List.{slice_index_or};
+ghost use Rattle.std.specs.Prelude.{◌≡◌, ◌<◌, ◌≤◌, ◌+◌, ◌-◌, ◌^◌, ◌∷◌, [], ℕ, true, length};
+ghost use Rattle.std.specs.Prelude.{false, max, option_map, IfOk};
+ghost use Rattle.std.specs.List.{find, slice_index_or};
+ghost use Rattle.t1_parts.specs.Counts.{subrs_needed, glyphs_needed};
+ghost use Rattle.t1_parts.specs.ItemRefs.{item_of};
 ghost use Rattle.t1_parts.specs.Items.{items_in};
+ghost use Rattle.t1_parts.specs.LenIV.{lead_among, says_lead};
+ghost use Rattle.t1_parts.specs.Needs.{AreNeeded};
 ghost use Rattle.t1_parts.specs.Starts.{starts_from, raised_from, lowered_from};
 ghost use Rattle.t1_parts.specs.Starts.{AreStarts, IsLastStart};
 ghost use Rattle.t1_parts.specs.Stretches.{AreSingle};
 
+use crate::item::Item;
+use crate::item_ref::ItemRef;
+use crate::items_iter::{ItemsIter, items_among};
+use crate::len_iv::lead_on;
 use crate::stretch::Stretch;
 use std::alloc::{AllocError, Global};
 
@@ -91,4 +101,290 @@ pub(crate) fn lower_starts(starts: &mut [usize], from: usize)
     for index in from..starts.len() {
         starts[index] -= 1;
     }
+}
+
+/// How many Subrs and glyphs stand before each of some stretches, and how many there are in all.
+/// They tell near which stretch an entry stands. Time alone hangs on them.
+#[derive(Drop)]
+pub(crate) struct EntryCounts {
+    before: Vec<usize>,
+    count: usize,
+}
+
+/// Whether a stretch is a Subr or a glyph.
+pub(crate) fn is_entry_alone(stretch: &Stretch) -> bool {
+    match stretch {
+        Stretch::One(item) => item.as_ref().is_entry(),
+        Stretch::Lines(_) => false,
+    }
+}
+
+/// The index of the first of some counts, which grow, that is not less than another.
+fn first_from(counts: &[usize], count: usize) -> usize
+    ensures { result ≤ length counts.now }
+{
+    counts.partition_point(|other| *other < count)
+}
+
+/// Raises the counts from an index on by one.
+fn raise(counts: &mut [usize], from: usize) {
+    for index in from..counts.len() {
+        counts[index] = counts[index].wrapping_add(1);
+    }
+}
+
+/// Lowers the counts from an index on by one.
+fn lower(counts: &mut [usize], from: usize) {
+    for index in from..counts.len() {
+        counts[index] = counts[index].wrapping_sub(1);
+    }
+}
+
+impl EntryCounts {
+    /// Those of no stretches.
+    pub(crate) fn new(alloc: Global) -> Self {
+        EntryCounts {
+            before: Vec::new(alloc),
+            count: 0,
+        }
+    }
+
+    /// Those of some stretches.
+    pub(crate) fn of(alloc: Global, stretches: &[Stretch]) -> Result<EntryCounts, AllocError> {
+        let mut counts = EntryCounts::new(alloc);
+        counts.before.reserve_exact(stretches.len())?;
+        for stretch in stretches {
+            counts.push(is_entry_alone(stretch))?;
+        }
+        Ok(counts)
+    }
+
+    /// The same in memory of their own.
+    pub(crate) fn copied(&self, alloc: Global) -> Result<EntryCounts, AllocError> {
+        Ok(EntryCounts {
+            before: copied_starts(alloc, self.before.as_slice())?,
+            count: self.count,
+        })
+    }
+
+    /// The index of a stretch from which on so many entries stand, which is at most an end.
+    pub(crate) fn with_behind(&self, behind: usize, end: usize) -> usize
+        ensures { result ≤ end }
+    {
+        let count = self.count.saturating_sub(behind);
+        first_from(self.before.as_slice(), count).min(end)
+    }
+
+    /// Makes room for one more stretch.
+    pub(crate) fn reserve(&mut self) -> Result<(), AllocError> {
+        self.before.reserve(1)
+    }
+
+    /// Counts a stretch that is added at the end.
+    pub(crate) fn push(&mut self, is_entry: bool) -> Result<(), AllocError> {
+        self.before.push(self.count)?;
+        self.count = self.count.wrapping_add(usize::from(is_entry));
+        Ok(())
+    }
+
+    /// Counts a stretch that is put in at an index, where there is room for it.
+    pub(crate) fn insert(&mut self, index: usize, is_entry: bool) {
+        let count = match self.before.get(index) {
+            Some(count) => *count,
+            None => self.count,
+        };
+        if index <= self.before.len() {
+            let _room_was_reserved = self.before.insert(index, count);
+        }
+        self.put(index, false, is_entry);
+    }
+
+    /// Counts a stretch no more that is taken out at an index.
+    pub(crate) fn remove(&mut self, index: usize, was_entry: bool) {
+        self.put(index, was_entry, false);
+        if index < self.before.len() {
+            let _count = self.before.remove(index);
+        }
+    }
+
+    /// Counts a stretch that takes the place of the one at an index.
+    pub(crate) fn put(&mut self, index: usize, was_entry: bool, is_entry: bool) {
+        let after = index.saturating_add(1);
+        if is_entry && !was_entry {
+            self.count = self.count.wrapping_add(1);
+            raise(&mut self.before, after);
+        }
+        if was_entry && !is_entry {
+            self.count = self.count.wrapping_sub(1);
+            lower(&mut self.before, after);
+        }
+    }
+}
+
+/// The first item that says lenIV. It stands alone.
+fn first_saying<'i, 'a>(items: ItemsIter<'i, 'a>) -> Option<&'i Item<'a>>
+    ensures { option_map (λ item. item.now) result ≡ find says_lead items.entry }
+{
+    let mut alone = items.alone();
+    alone.find(|item| item.as_ref().says_lead())
+}
+
+/// The lenIV of some items.
+#[tactic(auto, using(crate::proofs::LeadLaws::said_there, crate::proofs::LeadLaws::said_nowhere))]
+pub fn lead_of(items: ItemsIter) -> u8
+    ensures { result ≡ lead_among items.entry }
+{
+    match first_saying(items) {
+        Some(item) => lead_on(item).unwrap_or(4),
+        None => 4,
+    }
+}
+
+/// The lenIV of some stretches, which have so many items.
+pub(crate) fn lead_in(stretches: &[Stretch], len: usize) -> u8
+    requires { len ≡ length (items_in stretches.now) }
+    ensures { result ≡ lead_among (items_in stretches.now) }
+{
+    lead_of(items_among(stretches, len))
+}
+
+/// The lenIV of some stretches after an edit: the one before it, where nothing that was put in or
+/// taken out says lenIV.
+pub(crate) fn lead_after(stretches: &[Stretch], len: usize, lead: u8, is_said: bool) -> u8
+    requires len { len ≡ length (items_in stretches.now) }
+    requires same { is_said ≡ false → lead ≡ lead_among (items_in stretches.now) }
+    ensures { result ≡ lead_among (items_in stretches.now) }
+{
+    if is_said {
+        return lead_in(stretches, len);
+    }
+    lead
+}
+
+/// What the Subrs of these items ask of the section's count: the highest number plus one, 0 where
+/// there is none.
+#[tactic(auto, using(crate::proofs::AloneLaws::subrs_alone))]
+pub fn subrs_needed(items: ItemsIter) -> u64
+    ensures { result ≡ subrs_needed items.entry }
+{
+    let mut needed = 0;
+    for item in items.alone() {
+        if let Item::Subr(number, _, _) = item {
+            needed = (u64::from(*number) + 1).max(needed);
+        }
+    }
+    needed
+}
+
+/// What the glyphs of these items ask of the section's count: their number.
+#[tactic(auto, using(crate::proofs::AloneLaws::glyphs_alone, crate::proofs::AloneLaws::length_alone))]
+pub fn glyphs_needed(items: ItemsIter) -> u64
+    ensures value { result ≡ glyphs_needed items.entry }
+    ensures within { result ≤ length items.entry }
+{
+    let _len = items.len();
+    let mut needed = 0;
+    for item in items.alone() {
+        if let Item::Glyph(_, _, _) = item {
+            needed += 1;
+        }
+    }
+    needed
+}
+
+/// What items ask of the counts of their sections: the highest Subr number plus one, 0 where there
+/// is none, and the number of glyphs.
+#[derive(Clone, Copy)]
+pub(crate) struct Needs {
+    pub(crate) subrs: u64,
+    pub(crate) glyphs: u64,
+}
+
+/// What one item asks.
+pub(crate) fn needs_of(item: &ItemRef) -> Needs
+    ensures needs { AreNeeded result (item_of item.now ∷ []) }
+    ensures one { result.glyphs ≤ 1 }
+{
+    match item {
+        ItemRef::Subr(number, _, _) => Needs {
+            subrs: u64::from(*number) + 1,
+            glyphs: 0,
+        },
+        ItemRef::Glyph(_, _, _) => Needs {
+            subrs: 0,
+            glyphs: 1,
+        },
+        _ => Needs {
+            subrs: 0,
+            glyphs: 0,
+        },
+    }
+}
+
+/// What the items of some stretches ask, which have so many items.
+pub(crate) fn needs_among(stretches: &[Stretch], len: usize) -> Needs
+    requires { len ≡ length (items_in stretches.now) }
+    ensures { AreNeeded result (items_in stretches.now) }
+{
+    Needs {
+        subrs: subrs_needed(items_among(stretches, len)),
+        glyphs: glyphs_needed(items_among(stretches, len)),
+    }
+}
+
+/// What some items and others ask together.
+pub(crate) fn together(some: Needs, others: Needs) -> Needs
+    requires { some.glyphs + others.glyphs < 2 ^ 64 }
+    ensures subrs { result.subrs ≡ max some.subrs others.subrs }
+    ensures glyphs { result.glyphs ≡ some.glyphs + others.glyphs }
+{
+    Needs {
+        subrs: some.subrs.max(others.subrs),
+        glyphs: some.glyphs + others.glyphs,
+    }
+}
+
+/// What the items of some stretches ask after one was taken out. They are gone over only where that
+/// was the Subr of the highest number.
+pub(crate) fn needs_without(stretches: &[Stretch], len: usize, needs: Needs, gone: Needs) -> Needs
+    requires len { len ≡ length (items_in stretches.now) }
+    requires subrs { needs.subrs ≡ max gone.subrs (subrs_needed (items_in stretches.now)) }
+    requires glyphs { needs.glyphs ≡ gone.glyphs + glyphs_needed (items_in stretches.now) }
+    ensures { AreNeeded result (items_in stretches.now) }
+{
+    let glyphs = needs.glyphs - gone.glyphs;
+    if gone.subrs == 0 || gone.subrs < needs.subrs {
+        return Needs {
+            subrs: needs.subrs,
+            glyphs,
+        };
+    }
+    Needs {
+        subrs: subrs_needed(items_among(stretches, len)),
+        glyphs,
+    }
+}
+
+/// What the items of some stretches ask after an item came in the place of another: what they asked
+/// before, where both ask the same.
+pub(crate) fn needs_after(stretches: &[Stretch], len: usize, needs: Needs, is_same: bool) -> Needs
+    requires len { len ≡ length (items_in stretches.now) }
+    requires same { is_same ≡ true → AreNeeded needs (items_in stretches.now) }
+    ensures { AreNeeded result (items_in stretches.now) }
+{
+    if is_same {
+        return needs;
+    }
+    needs_among(stretches, len)
+}
+
+/// Whether an item asks what another asks, in whose place it comes.
+pub(crate) fn ask_the_same(old: &ItemRef, new: &Item) -> bool
+    ensures { result ≡ true
+        → (subrs_needed (item_of old.now ∷ []) ≡ subrs_needed (new.now ∷ []))
+        × (glyphs_needed (item_of old.now ∷ []) ≡ glyphs_needed (new.now ∷ [])) }
+{
+    let before = needs_of(old);
+    let after = needs_of(&new.as_ref());
+    before.subrs == after.subrs && before.glyphs == after.glyphs
 }

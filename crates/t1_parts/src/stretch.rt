@@ -8,11 +8,10 @@ ghost use Rattle.t1_parts.specs.EntryKeys.{is_entry_of, is_of_kind};
 ghost use Rattle.t1_parts.specs.LenIV.{says_lead};
 ghost use Rattle.t1_parts.specs.declared.item.Item.{Item};
 ghost use Rattle.t1_parts.specs.Items.{line_items, stretch_items};
-ghost use Rattle.t1_parts.specs.Stretches.{raised_stretch, stands_alone};
+ghost use Rattle.t1_parts.specs.Stretches.{stands_alone};
 ghost use Rattle.t1_parts.specs.ItemRefs.{item_of};
 
 use crate::alone_items::stands_alone;
-use crate::counts::raise_item;
 use crate::entry_key::{EntryKey, ItemKind};
 use crate::item::Item;
 use crate::item_ref::ItemRef;
@@ -136,15 +135,6 @@ impl<'a> Stretch<'a> {
         match self {
             Stretch::Lines(plain) if 0 < at => Some(plain.cut(at)),
             _ => None,
-        }
-    }
-
-    /// Raises the count of a section line to what is needed.
-    pub(crate) fn raise_count(&mut self, subrs: u64, glyphs: u64)
-        ensures { self.new ≡ raised_stretch subrs glyphs self.old }
-    {
-        if let Stretch::One(item) = self {
-            raise_item(item, subrs, glyphs);
         }
     }
 }

@@ -5,13 +5,15 @@ ghost use Rattle.std.specs.Prelude.{map, take, drop, slice_set, IfOk, OnOk, OnEr
 ghost use Rattle.std.specs.List.{insert, remove, slice_index_or};
 ghost use Rattle.t1_parts.specs.declared.stretch.Stretch.{Stretch};
 ghost use Rattle.t1_parts.specs.declared.stretch.Stretch.TheVariants.{One};
+ghost use Rattle.t1_parts.specs.Counts.{raised_item};
 ghost use Rattle.t1_parts.specs.Items.{items_in, stretch_items};
 ghost use Rattle.t1_parts.specs.Starts.{AreStarts, starts_from};
 ghost use Rattle.t1_parts.specs.Stretches.{raised_stretch, StandsAloneAt, IsPlaceOfItem};
 
-use crate::entry_counts::{EntryCounts, is_entry_alone};
 use crate::item::Item;
-use crate::starts::{copied_starts, last_start, lower_starts, raise_starts};
+use crate::starts::{
+    EntryCounts, copied_starts, is_entry_alone, last_start, lower_starts, raise_starts,
+};
 use crate::stretch::Stretch;
 use std::alloc::{AllocError, Global};
 use std::marker::Model;
@@ -105,6 +107,29 @@ fn remove_stretch(stretches: &mut Vec<Stretch>, index: usize)
     drop(stretches.remove(index));
 }
 
+/// Raises the count of a section line to what is needed.
+fn raise_item(item: &mut Item, subrs: u64, glyphs: u64)
+    ensures { item.new ≡ raised_item subrs glyphs item.old }
+{
+    let needed = if item.as_ref().is_glyphs_line() {
+        glyphs
+    } else {
+        subrs
+    };
+    if let Item::Section(_, count, _) = item {
+        *count = (*count).max(needed);
+    }
+}
+
+/// Raises the count of the section line that a stretch may be to what is needed.
+fn raise_count(stretch: &mut Stretch, subrs: u64, glyphs: u64)
+    ensures { stretch.new ≡ raised_stretch subrs glyphs stretch.old }
+{
+    if let Stretch::One(item) = stretch {
+        raise_item(item, subrs, glyphs);
+    }
+}
+
 /// Raises the counts of the section lines among the first of some stretches.
 fn raise_stretches(stretches: &mut Vec<Stretch>, end: usize, subrs: u64, glyphs: u64)
     requires { end ≤ length stretches.old.items }
@@ -114,7 +139,7 @@ fn raise_stretches(stretches: &mut Vec<Stretch>, end: usize, subrs: u64, glyphs:
 {
     for index in 0..end {
         let stretch = &mut stretches[index];
-        stretch.raise_count(subrs, glyphs);
+        raise_count(stretch, subrs, glyphs);
     }
 }
 

@@ -27,7 +27,7 @@ use Rattle.t1_font.specs.OwnedKeys.{key_of}
 use Rattle.t1_font.proofs.Keys.{key-itself, key-same}
 use Rattle.t1_cache.proofs.Distinct.{names_distinct}
 use Rattle.t1_cache.specs.Laws.{AreDistinct}
-use Rattle.t1_rerun.specs.declared.renewal.Renewal.{Renewal}
+use Rattle.t1_rerun.specs.declared.changing.Renewal.{Renewal}
 use Rattle.t1_rerun.specs.declared.entry_change.EntryChange.{EntryChange}
 use Rattle.t1_rerun.specs.declared.settling.Ready.{Ready}
 use Rattle.t1_rerun.specs.Changing.{body_changed, AreChangesOf, IsReadyFor, MayBePrepared}

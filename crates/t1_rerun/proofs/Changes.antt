@@ -34,10 +34,10 @@ use Rattle.t1_cache.proofs.Judging.{unnamed}
 use Rattle.t1_font.proofs.Lookups.{bytes_tell}
 use Rattle.t1_cache.proofs.Rooming.{room_for_joins}
 use Rattle.t1_cache.proofs.Filtering.{filter-as}
-use Rattle.t1_rerun.specs.declared.renewal.Renewal.{Renewal}
+use Rattle.t1_rerun.specs.declared.changing.Renewal.{Renewal}
 use Rattle.t1_rerun.specs.declared.entry_change.EntryChange.{EntryChange}
 use Rattle.t1_rerun.specs.declared.settling.Ready.{Ready}
-use Rattle.t1_rerun.specs.declared.settling.steps.RecordChange.{RecordChange}
+use Rattle.t1_rerun.specs.declared.settling.RecordChange.{RecordChange}
 use Rattle.t1_rerun.specs.Right.{has_glyph, IsRight}
 use Rattle.t1_rerun.specs.Settled.{changed_keys, last_glyphs, was_moved, HasBody, IsJudged, IsReady, IsRenewedBy}
 use Rattle.t1_rerun.specs.Steps.{after_all, is_last, new_run, seen, some_inserts, LacksRun, Seen}

@@ -18,8 +18,8 @@ use Rattle.t1_font.specs.OwnedKeys.{key_of}
 use Rattle.t1_cache.proofs.Filtering.{filter-all, filter-both, filter-same}
 use Rattle.t1_font.proofs.Lookups.{bytes_tell, bytes-turned}
 use Rattle.t1_font.proofs.Keys.{glyph-key}
-use Rattle.t1_rerun.specs.declared.settling.steps.RecordChange.{RecordChange}
-use Rattle.t1_rerun.specs.declared.settling.steps.RecordChange.TheVariants as steps
+use Rattle.t1_rerun.specs.declared.settling.RecordChange.{RecordChange}
+use Rattle.t1_rerun.specs.declared.settling.RecordChange.TheVariants as steps
 use Rattle.t1_rerun.specs.Steps.{seen_after, after_all, seen, step_body, step_kept, step_key, step_users, takes_out, AreTakenOut, Seen}
 
 -- ---- seen alike but for some glyphs

@@ -29,9 +29,9 @@ use Rattle.t1_cache.specs.Recorded.{kept_of}
 use Rattle.t1_cache.specs.Users.{among, glyph_users, subr_users, users_at}
 use Rattle.t1_font.specs.OwnedKeys.{key_of}
 use Rattle.t1_rerun.specs.declared.entry_change.EntryChange.{EntryChange}
-use Rattle.t1_rerun.specs.declared.settling.steps.RecordChange.{RecordChange}
-use Rattle.t1_rerun.specs.declared.settling.steps.RecordChange.TheVariants as steps
-use Rattle.t1_rerun.specs.declared.renewal.Renewal.{Renewal}
+use Rattle.t1_rerun.specs.declared.settling.RecordChange.{RecordChange}
+use Rattle.t1_rerun.specs.declared.settling.RecordChange.TheVariants as steps
+use Rattle.t1_rerun.specs.declared.changing.Renewal.{Renewal}
 use Rattle.t1_rerun.specs.Settled.{changed_keys, AreAsBefore, AreDistinctKeys, IsJudged}
 use Rattle.t1_rerun.specs.Steps.{entry_change, inserts, is_last, new_run, new_run_of, some_inserts, AreStepsOf, IsStepOf, LacksRun}
 use Rattle.t1_rerun.proofs.Stepping.{inserted-named, inserts-last}

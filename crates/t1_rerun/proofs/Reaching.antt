@@ -28,7 +28,7 @@ use Rattle.t1_cache.specs.Recorded.{IsFromScratch}
 use Rattle.t1_cache.specs.Renewed.{recorded_run}
 use Rattle.t1_cache.specs.Users.{is_name_among, has_pair}
 use Rattle.t1_font.specs.OwnedKeys.{key_of}
-use Rattle.t1_rerun.specs.declared.renewal.Renewal.{Renewal}
+use Rattle.t1_rerun.specs.declared.changing.Renewal.{Renewal}
 use Rattle.t1_rerun.specs.Newest.{newest_among}
 use Rattle.t1_rerun.specs.Renewals.{rerun_names, IsLater, IsRenewal, IsMeasuredRerun}
 use Rattle.t1_rerun.specs.Right.{IsEdit}

@@ -43,7 +43,7 @@ use Rattle.t1_font.specs.OwnedKeys.{key_of}
 use Rattle.t1_cache.proofs.Counting.{found_count}
 use Rattle.t1_cache.proofs.Lists.{all-weaken, all-at}
 use Rattle.t1_font.proofs.Lookups.{bytes_tell}
-use Rattle.t1_rerun.specs.declared.renewal.Renewal.{Renewal}
+use Rattle.t1_rerun.specs.declared.changing.Renewal.{Renewal}
 use Rattle.t1_rerun.specs.Newest.{judged_in, newest_among, FirstIn}
 use Rattle.t1_rerun.specs.Renewals.{rerun_names, HasBox, IsRenewal, IsMeasuredRerun}
 use Rattle.t1_rerun.specs.Right.{has_glyph, IsEdit}

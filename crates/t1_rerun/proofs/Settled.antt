@@ -33,7 +33,7 @@ use Rattle.t1_font.proofs.Lookups.{bytes_tell}
 use Rattle.t1_font.proofs.Measuring.{own-none}
 use Rattle.t1_cache.proofs.Renewing.{glyphs-of, names_kept, renewed, one-of}
 use Rattle.t1_cache.proofs.Lists.{all-weaken, all-at}
-use Rattle.t1_rerun.specs.declared.renewal.Renewal.{Renewal}
+use Rattle.t1_rerun.specs.declared.changing.Renewal.{Renewal}
 use Rattle.t1_rerun.specs.Renewals.{rerun_names, IsRenewal}
 use Rattle.t1_rerun.specs.Right.{has_glyph, IsRight}
 use Rattle.t1_rerun.specs.Settled.{IsRenewedBy}

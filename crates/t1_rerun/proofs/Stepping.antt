@@ -30,8 +30,8 @@ use Rattle.t1_cache.proofs.Lists.{all-weaken, all-last}
 use Rattle.t1_cache.proofs.Filtering.{filter-all, filter-both}
 use Rattle.t1_font.proofs.Lookups.{bytes_tell, bytes-turned}
 use Rattle.t1_rerun.specs.declared.entry_change.EntryChange.{EntryChange}
-use Rattle.t1_rerun.specs.declared.settling.steps.RecordChange.{RecordChange}
-use Rattle.t1_rerun.specs.declared.settling.steps.RecordChange.TheVariants as steps
+use Rattle.t1_rerun.specs.declared.settling.RecordChange.{RecordChange}
+use Rattle.t1_rerun.specs.declared.settling.RecordChange.TheVariants as steps
 use Rattle.t1_rerun.specs.Right.{has_glyph}
 use Rattle.t1_rerun.specs.Settled.{changed_keys, last_glyph, last_glyphs, was_moved, AreDistinctKeys}
 use Rattle.t1_rerun.specs.Steps.{seen_after, after_all, inserts, is_last, some_inserts, step_body, step_key, step_kept, step_users, AreStepsOf, IsStepOf, LacksRun, Seen}

@@ -17,8 +17,8 @@ use Rattle.t1_cache.specs.Bodies.{glyph_body, subr_body}
 use Rattle.t1_cache.specs.Edited.{IsEditedAt}
 use Rattle.t1_cache.specs.Laws.{AreDistinct}
 use Rattle.t1_font.specs.OwnedKeys.{key_of}
-use Rattle.t1_rerun.specs.declared.bodies.EditedBodies.{EditedBodies}
-use Rattle.t1_rerun.specs.declared.renewal.Renewal.{Renewal}
+use Rattle.t1_rerun.specs.declared.changing.EditedBodies.{EditedBodies}
+use Rattle.t1_rerun.specs.declared.changing.Renewal.{Renewal}
 use Rattle.t1_rerun.specs.declared.entry_change.EntryChange.{EntryChange}
 use Rattle.t1_rerun.specs.declared.settling.Ready.{Ready}
 use Rattle.t1_rerun.specs.Renewals.{IsLater}

@@ -17,7 +17,7 @@ use Rattle.t1_cache.specs.Joins.{AreLeaves}
 use Rattle.t1_cache.specs.Renewal.{kept_by}
 use Rattle.t1_cache.specs.Recorded.{IsFromScratch}
 use Rattle.t1_run.specs.Touched.{AreStale}
-use Rattle.t1_rerun.specs.declared.renewal.Renewal.{Renewal}
+use Rattle.t1_rerun.specs.declared.changing.Renewal.{Renewal}
 
 -- word: the names of the glyphs that were run again
 abbrev pub rerun_names : List Rerun → List (List ℕ)

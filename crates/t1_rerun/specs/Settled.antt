@@ -24,7 +24,7 @@ use Rattle.t1_cache.specs.Renewed.{reruns_by_name}
 use Rattle.t1_cache.specs.Room.{MayJoin}
 use Rattle.t1_cache.specs.Users.{lists, users_at, pairs_of_key}
 use Rattle.t1_font.specs.OwnedKeys.{key_of}
-use Rattle.t1_rerun.specs.declared.renewal.Renewal.{Renewal}
+use Rattle.t1_rerun.specs.declared.changing.Renewal.{Renewal}
 use Rattle.t1_rerun.specs.declared.entry_change.EntryChange.{EntryChange}
 use Rattle.t1_rerun.specs.declared.settling.Ready.{Ready}
 use Rattle.t1_rerun.specs.Renewals.{IsRenewal}

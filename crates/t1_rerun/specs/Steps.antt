@@ -23,8 +23,8 @@ use Rattle.t1_cache.specs.Recorded.{RecordedGlyph, kept_of}
 use Rattle.t1_cache.specs.Users.{is_name_among, users_at, users_of, UserSet}
 use Rattle.t1_font.specs.OwnedKeys.{key_of}
 use Rattle.t1_rerun.specs.declared.entry_change.EntryChange.{EntryChange}
-use Rattle.t1_rerun.specs.declared.settling.steps.RecordChange.{RecordChange}
-use Rattle.t1_rerun.specs.declared.settling.steps.RecordChange.TheVariants as steps
+use Rattle.t1_rerun.specs.declared.settling.RecordChange.{RecordChange}
+use Rattle.t1_rerun.specs.declared.settling.RecordChange.TheVariants as steps
 
 -- word: what is seen of records: the body and the users at each key, and each glyph's run and box, in order
 pub record Seen : Type 0 where

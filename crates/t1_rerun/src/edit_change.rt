@@ -12,7 +12,8 @@ ghost use Rattle.t1_rerun.specs.EntryChanges.{put_number, removed_number, IsChan
 
 use crate::entry_change::EntryChange;
 use std::alloc::{AllocError, Global};
-use t1_font::{OwnedKey, compiled_glyph, compiled_subr};
+use t1_code::{compiled_glyph, compiled_subr};
+use t1_font::OwnedKey;
 use t1_frac::{Bytes, Refusal};
 use t1_source::{Edit, body_words};
 

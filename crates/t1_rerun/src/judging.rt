@@ -1,5 +1,7 @@
 //! An edited font judged.
+
 ghost use Rattle.std.specs.Prelude.{◌≡◌, true, All, IsSome, IfOk, List, ℕ, filter, length, map};
+ghost use Rattle.std.specs.Prelude.{is_some};
 ghost use Rattle.std.specs.List.{AllByRecursion};
 ghost use Rattle.t1_frac.specs.Outcome.{Gives};
 ghost use Rattle.t1_parts.specs.SourceParts.{SourceParts};
@@ -19,16 +21,59 @@ ghost use Rattle.t1_rerun.specs.Newest.{judged_in, newest, newest_among, FirstIn
 ghost use Rattle.t1_rerun.specs.Renewals.{IsLater, IsRenewal};
 ghost use Rattle.t1_rerun.specs.Right.{IsEdit};
 
+use crate::changing::{Renewal, renewal_of};
 use crate::newest::Newest;
 use crate::order::GlyphOrder;
-use crate::renewal::{Renewal, renewal_of};
-use crate::stale::{stale_among, there_among};
 use indexmap::IndexSet;
-use std::alloc::Global;
-use t1_cache::{Records, found};
+use std::alloc::{AllocError, Global};
+use t1_cache::Records;
 use t1_font::{GlyphMetrics, OwnedKey, Runs, glyph_metrics_of, runs_of};
 use t1_frac::Refusal;
-use t1_run::{Meter, StoredBodies};
+use t1_run::{Bodies, Meter, StoredBodies};
+
+/// Those of these names that were found, in their order.
+fn stale_among<'a>(
+    alloc: Global,
+    names: &[&'a [u8]],
+    found: &IndexSet<&[u8]>,
+) -> Result<Vec<&'a [u8]>, AllocError>
+    ensures { IfOk result
+        (λ stale.
+        map (λ name. name.now) stale.items
+        ≡ filter (is_name_among (λ name. name.now) found.now.keys)
+        (map (λ name. name.now) names.now)) }
+{
+    let mut stale = Vec::new(alloc);
+    for name in names {
+        if !found.contains(*name) {
+            continue;
+        }
+        stale.push(*name)?;
+    }
+    Ok(stale)
+}
+
+/// Those of these names that have a body, in their order.
+fn there_among<'a, B: Bodies>(
+    alloc: Global,
+    bodies: &B,
+    found: &[&'a [u8]],
+) -> Result<Vec<&'a [u8]>, AllocError>
+    ensures { IfOk result
+        (λ there.
+        map (λ name. name.now) there.items
+        ≡ filter (λ g. is_some (B.glyphs bodies.now g))
+        (map (λ name. name.now) found.now)) }
+{
+    let mut there = Vec::new(alloc);
+    for name in found {
+        if !bodies.has_glyph(name) {
+            continue;
+        }
+        there.push(*name)?;
+    }
+    Ok(there)
+}
 
 /// The first fault of the glyphs that were found, in the order of the font.
 fn check_in_order<O: GlyphOrder>(
@@ -71,30 +116,9 @@ fn first_in_order<O: GlyphOrder>(
     }
 }
 
-/// What is measured of stale glyphs, in the order in which they were found, or the first fault of
-/// one in the order of the font, which is asked for only there.
-fn measured_in_turn<'a, O: GlyphOrder>(
-    alloc: Global,
-    runs: &Newest,
-    stale: &[&'a [u8]],
-    found: &IndexSet<&[u8]>,
-    order: &O,
-) -> Result<Vec<GlyphMetrics<'a>>, Refusal>
-    ensures { Gives (λ metrics. metrics.items) result
-        (judged_in
-        (glyph_metrics_among (newest runs.now.runs.now runs.now.records.now)
-        (map (λ name. name.now) stale.now))
-        (glyph_metrics_among (newest runs.now.runs.now runs.now.records.now)
-        (filter (is_name_among (λ name. name.now) found.now.keys) (O.ordered order.now)))) }
-{
-    match glyph_metrics_of(alloc, runs, stale) {
-        Ok(metrics) => Ok(metrics),
-        Err(refusal) => Err(first_in_order(alloc, runs, found, order, refusal)),
-    }
-}
-
-/// Runs each of these glyphs and measures it by the newest runs, or answers the first fault of one
-/// of them in the order of the font. The meter counts each of them.
+/// Runs each of these glyphs and measures it by the newest runs, in the order in which they were
+/// found; or answers the first fault of one of them in the order of the font, which is asked for
+/// only there. The meter counts each of them.
 fn judged<'a, B: StoredBodies, O: GlyphOrder>(
     alloc: Global,
     records: &Records,
@@ -132,13 +156,15 @@ fn judged<'a, B: StoredBodies, O: GlyphOrder>(
         runs: &runs,
         records,
     };
-    let metrics = measured_in_turn(alloc, &newest, stale, found, order)?;
-    Ok((runs, metrics))
+    match glyph_metrics_of(alloc, &newest, stale) {
+        Ok(metrics) => Ok((runs, metrics)),
+        Err(refusal) => Err(first_in_order(alloc, &newest, found, order, refusal)),
+    }
 }
 
 /// Runs the stale glyphs that were found, each once, and measures them by the newest runs: what is
 /// new of the edited font, or its first fault.
-fn rerun_found<B: StoredBodies, O: GlyphOrder>(
+pub fn rerun_found<B: StoredBodies, O: GlyphOrder>(
     alloc: Global,
     records: &Records,
     bodies: &B,
@@ -177,36 +203,4 @@ fn rerun_found<B: StoredBodies, O: GlyphOrder>(
         &mut runs,
         &metrics,
     )?)
-}
-
-/// Runs the glyphs that edits make stale, each once, and measures them by the newest runs: what is
-/// new of the edited font, or its first fault. The bodies and the order of the glyphs are those of
-/// the edited font; the order is asked for only where a glyph has a fault. The meter counts each
-/// run.
-pub fn rerun<B: StoredBodies, O: GlyphOrder>(
-    alloc: Global,
-    records: &Records,
-    bodies: &B,
-    order: &O,
-    edits: &[OwnedKey],
-    meter: &mut Meter,
-) -> Result<Renewal, Refusal>
-    requires { keep_traces records.now ≡ true }
-    ensures checked { (old new : SourceParts)
-        → IsEdit edits.now old new records.now (font (B.subrs bodies.now) (B.glyphs bodies.now))
-        (O.ordered order.now)
-        → Gives (λ _. tt) result (source_check new) }
-    ensures renewal { (old new : SourceParts)
-        → IsEdit edits.now old new records.now (font (B.subrs bodies.now) (B.glyphs bodies.now))
-        (O.ordered order.now)
-        → IfOk result (IsRenewal (map key_of edits.now) old new) }
-    ensures later { IfOk result
-        (λ renewal. AllByRecursion (IsLater meter.old) renewal.reruns.items) }
-    ensures counted { (old new : SourceParts)
-        → IsEdit edits.now old new records.now (font (B.subrs bodies.now) (B.glyphs bodies.now))
-        (O.ordered order.now)
-        → Counts (length (stale old (map key_of edits.now) new)) meter.old meter.new result }
-{
-    let found = found(alloc, records, edits)?;
-    rerun_found(alloc, records, bodies, order, edits, &found, meter)
 }

@@ -24,7 +24,6 @@
 //! `recorded_metrics`: the metrics by right records, and what the file says by them, are those from
 //! scratch.
 
-mod bodies;
 mod changing;
 mod coded;
 mod edit_change;
@@ -35,20 +34,15 @@ mod newest;
 mod opening;
 mod order;
 mod recorded;
-mod renewal;
 mod reruns;
 mod settling;
-mod stale;
 
-pub use bodies::{EditedBodies, edited_bodies};
-pub use changing::{prepare_changes, settle_ready};
+pub use changing::{EditedBodies, Renewal, edited_bodies, make_ready, prepare_changes, rerun};
 pub use edit_change::{change_alone, change_of_edit};
 pub use entry_change::EntryChange;
-pub use judging::rerun;
 pub use measured::measured_records;
 pub use newest::Newest;
 pub use opening::opened_records;
 pub use order::GlyphOrder;
 pub use recorded::recorded_metrics;
-pub use renewal::Renewal;
-pub use settling::{Ready, make_ready, settle};
+pub use settling::{Ready, settle, settle_ready};

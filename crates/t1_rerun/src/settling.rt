@@ -1,78 +1,113 @@
-//! The records of a source, brought to those of the source after edits, in two steps: all growths
-//! first, which may fail, and then the change, which takes no memory and can't fail.
-ghost use Rattle.std.specs.Prelude.{◌≤◌, List, IfOk, OnOk, map};
+//! Records changed to those of an edited source, by what was prepared for the changes of its
+//! entries. It takes no memory and can't fail.
+ghost use Rattle.std.specs.Prelude.{◌≡◌, ◌<◌, ◌≤◌, ℕ, List, None, filter, length, map, not};
 ghost use Rattle.std.specs.List.{AllByRecursion};
 ghost use Rattle.indexmap.specs.IndexMap.{spare};
-ghost use Rattle.t1_cache.specs.Changed.{AreSameRecords};
-ghost use Rattle.t1_cache.specs.Recorded.{kept_of};
 ghost use Rattle.t1_parts.specs.SourceParts.{SourceParts};
+ghost use Rattle.t1_run.specs.Run.{Key};
+ghost use Rattle.t1_run.specs.Touched.{is_key_of};
+ghost use Rattle.t1_cache.specs.Changed.{PutsBody, SetsBody, SetsUsers, UsesUp};
+ghost use Rattle.t1_cache.specs.Recorded.{kept_of};
+ghost use Rattle.t1_cache.specs.Users.{users_at};
+ghost use Rattle.t1_font.specs.OwnedKeys.{key_of};
+ghost use Rattle.t1_rerun.specs.Changing.{ArePreparedChanges, IsReadyFor};
+ghost use Rattle.t1_rerun.specs.Renewing.{IsRunWhereStale};
 ghost use Rattle.t1_rerun.specs.Right.{IsRight};
-ghost use Rattle.t1_rerun.specs.Settled.{changed_keys, AreAsBefore, AreDistinctKeys, IsJudged};
-ghost use Rattle.t1_rerun.specs.Settled.{IsReady, IsRenewedBy, MayBeSettled};
+ghost use Rattle.t1_rerun.specs.Settled.{changed_keys, IsJudged, IsReady, IsRenewedBy};
+ghost use Rattle.t1_rerun.specs.Settled.{MayBeSettled};
+ghost use Rattle.t1_rerun.specs.Steps.{after_all, seen, seen_after, AreTakenOut};
 
-mod preparing;
-mod steps;
-
+use crate::changing::Renewal;
 use crate::entry_change::EntryChange;
-use crate::renewal::Renewal;
-use preparing::{runs_by_name, steps_with_room, taken_out};
-use std::alloc::{AllocError, Global};
-use steps::{RecordChange, change_all};
-use t1_cache::{Names, NewRuns, Records, make_room, move_users, renew_by_name};
+use t1_cache::{
+    BoxedRecord, Names, NewRuns, Records, SubrRecord, move_users, put_glyph, put_in_subr,
+    put_last_glyph, put_subr, remove_glyph, remove_glyphs, remove_subr, renew_by_name,
+};
+use t1_code::Body;
 use t1_font::OwnedKey;
+
+/// A change of one record, with all the memory that it takes.
+#[derive(Drop)]
+pub enum RecordChange {
+    /// The record is taken out.
+    Remove(OwnedKey),
+    /// The record has another body.
+    Put(OwnedKey, Body),
+    /// A new record is put in.
+    InsertSubr(u16, SubrRecord),
+    /// A new record is put in after the others; one that was there goes.
+    InsertGlyph(Vec<u8>, BoxedRecord),
+}
 
 /// The changes of records, with all the memory that they take.
 #[derive(Drop)]
 pub struct Ready {
     // The first is the last.
-    steps: Vec<RecordChange>,
+    pub(crate) steps: Vec<RecordChange>,
     // The glyphs whose records leave their places.
-    taken: Names,
-    runs: NewRuns,
-    leaves: Vec<(OwnedKey, Vec<u8>)>,
-    joins: Vec<(OwnedKey, Vec<u8>)>,
+    pub(crate) taken: Names,
+    pub(crate) runs: NewRuns,
+    pub(crate) leaves: Vec<(OwnedKey, Vec<u8>)>,
+    pub(crate) joins: Vec<(OwnedKey, Vec<u8>)>,
 }
 
-/// Makes room for so many more Subrs and so many more glyphs.
-fn reserve_entries(records: &mut Records, count: usize) -> Result<(), AllocError>
-    ensures same { AreSameRecords records.old records.new }
-    ensures subrs { OnOk result (count ≤ spare records.new.subrs) }
-    ensures glyphs { OnOk result (count ≤ spare records.new.glyphs) }
+/// Takes out the record of a Subr or a glyph.
+fn remove(records: &mut Records, named: &OwnedKey)
+    ensures bodies { SetsBody (key_of named.now) None records.old records.new }
+    ensures users { SetsUsers (key_of named.now) None records.old records.new }
+    ensures kept { map kept_of records.new.glyphs.entries
+        ≡ filter (λ k. not (is_key_of k.name (key_of named.now)))
+        (map kept_of records.old.glyphs.entries) }
+    ensures room { UsesUp 0 records.old records.new }
 {
-    records.subrs.reserve(count)?;
-    records.glyphs.reserve(count)
+    match named {
+        OwnedKey::Subr(number) => remove_subr(records, *number),
+        OwnedKey::Glyph(name) => remove_glyph(records, name.as_slice()),
+    }
 }
 
-/// Makes all growths that changes of the records take: room for new entries and for the users that
-/// join each, the records of new entries, the new runs by their names, and the names of what leaves
-/// its place. The records stay as they are, also where memory runs out.
-pub fn make_ready(
-    alloc: Global,
-    records: &mut Records,
-    changes: Vec<EntryChange>,
-    renewal: Renewal,
-) -> Result<Ready, AllocError>
-    requires { AreDistinctKeys (changed_keys changes.items) }
-    ensures ready { IfOk result (IsReady changes.items renewal records.new) }
-    ensures same { AreAsBefore records.old records.new }
+/// Puts another body into the record of a Subr or a glyph.
+fn put(records: &mut Records, named: &OwnedKey, body: Body)
+    ensures bodies { PutsBody (key_of named.now) body records.old records.new }
+    ensures users { (k : Key) → users_at records.new k ≡ users_at records.old k }
+    ensures kept { map kept_of records.new.glyphs.entries ≡ map kept_of records.old.glyphs.entries }
+    ensures room { UsesUp 0 records.old records.new }
 {
-    let Renewal {
-        reruns,
-        leaves,
-        joins,
-    } = renewal;
-    make_room(alloc, records, &joins)?;
-    reserve_entries(records, changes.len())?;
-    let mut runs = runs_by_name(alloc, reruns)?;
-    let steps = steps_with_room(alloc, records, changes, &joins, &mut runs)?;
-    let taken = taken_out(alloc, records, &steps)?;
-    Ok(Ready {
-        steps,
-        taken,
-        runs,
-        leaves,
-        joins,
-    })
+    match named {
+        OwnedKey::Subr(number) => put_subr(records, *number, body),
+        OwnedKey::Glyph(name) => put_glyph(records, name.as_slice(), body),
+    }
+}
+
+/// Makes one change, in the room that was made. It takes no memory and can't fail.
+fn change_one(records: &mut Records, step: RecordChange)
+    requires subrs { 0 < spare records.old.subrs }
+    requires glyphs { 0 < spare records.old.glyphs }
+    ensures seen { seen records.new ≡ seen_after step (seen records.old) }
+    ensures room { UsesUp 1 records.old records.new }
+{
+    match step {
+        RecordChange::Remove(named) => remove(records, &named),
+        RecordChange::Put(named, body) => put(records, &named, body),
+        RecordChange::InsertSubr(number, record) => put_in_subr(records, number, record),
+        RecordChange::InsertGlyph(name, record) => put_last_glyph(records, name, record),
+    }
+}
+
+/// Makes the changes, the last one first, in the room that was made. It takes no memory and can't
+/// fail. The glyphs that are named as taken out go first, all in one pass over the records: a step
+/// takes out a glyph that isn't there at once.
+fn change_all(records: &mut Records, steps: Vec<RecordChange>, taken: &Names)
+    requires taken { AreTakenOut taken.now.keys steps.items }
+    requires subrs { length steps.items ≤ spare records.old.subrs }
+    requires glyphs { length steps.items ≤ spare records.old.glyphs }
+    ensures { seen records.new ≡ after_all steps.items (seen records.old) }
+{
+    remove_glyphs(records, taken);
+    let mut left = steps;
+    while let Some(step) = left.pop() {
+        change_one(records, step);
+    }
 }
 
 /// Brings the records from those of a source to those of the edited one, which has no fault:
@@ -104,4 +139,20 @@ pub fn settle(records: &mut Records, ready: Ready)
     change_all(records, steps, &taken);
     move_users(records, leaves, joins);
     renew_by_name(&mut records.glyphs, runs);
+}
+
+/// Brings the records of a source to those of the edited one, by what was prepared for its changes.
+/// It takes no memory and can't fail.
+pub fn settle_ready(records: &mut Records, ready: Ready)
+    requires { ArePreparedChanges records.old ready }
+    ensures right { (count : ℕ) (changes : List EntryChange) (old new : SourceParts)
+        → IsReadyFor count changes old new records.old ready
+        → IsRight new records.new }
+    ensures renews { (count : ℕ) (changes : List EntryChange) (old new : SourceParts)
+        → IsReadyFor count changes old new records.old ready
+        → AllByRecursion
+        (IsRunWhereStale count (changed_keys changes) old
+        (map kept_of records.old.glyphs.entries)) (map kept_of records.new.glyphs.entries) }
+{
+    settle(records, ready);
 }

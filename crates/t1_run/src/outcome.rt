@@ -1,26 +1,23 @@
 //! What a run answers.
 
-ghost use Rattle.std.specs.Prelude.{◌≡◌, All, IfSome, Option, Some, Ok};
+ghost use Rattle.std.specs.Prelude.{◌≡◌, All, IfSome, Option};
 ghost use Rattle.std.specs.Option.{option_copied};
 ghost use Rattle.t1_run.specs.Composite.{HasStandardParts, IsWithin};
-ghost use Rattle.t1_run.specs.Machine.{state_of};
-ghost use Rattle.t1_run.specs.Run.{drawing_of};
 
 use crate::entered::Entered;
 use crate::outline::{Composite, Metric, Point, Segment};
-use crate::state::State;
 use std::marker::Model;
 
 /// What the run of a glyph's own body answered. It is made by `run` and `run_of_body` alone, and
 /// can't be cloned.
 #[derive(Drop)]
 pub struct Run {
-    metric: Metric,
-    segments: Vec<Segment>,
-    composite: Option<Composite>,
-    entered: Entered,
-    steps: u32,
-    serial: u64,
+    pub(crate) metric: Metric,
+    pub(crate) segments: Vec<Segment>,
+    pub(crate) composite: Option<Composite>,
+    pub(crate) entered: Entered,
+    pub(crate) steps: u32,
+    pub(crate) serial: u64,
 }
 
 impl Model for Run {
@@ -47,34 +44,6 @@ impl Model for Run {
 }
 
 impl Run {
-    /// The run that ended in this state, with this metric.
-    pub(crate) fn ended(
-        state: State,
-        metric: Metric,
-        composite: Option<Composite>,
-        serial: u64,
-    ) -> Run
-        requires within { All IsWithin state.segments.items }
-        requires parts { IfSome composite HasStandardParts }
-        ensures drawing { drawing_of (Some metric) composite (state_of state) ≡ Ok result.drawing }
-        ensures serial { result.serial ≡ serial }
-    {
-        let State {
-            segments,
-            entered,
-            steps,
-            ..
-        } = state;
-        Run {
-            metric,
-            segments,
-            composite,
-            entered,
-            steps,
-            serial,
-        }
-    }
-
     /// The width of the glyph, in x and y.
     pub fn width(&self) -> Point
         ensures { result ≡ self.now.drawing.width }

@@ -1,20 +1,20 @@
 //! The run of a glyph's own body.
 
-ghost use Rattle.std.specs.Prelude.{◌≡◌, ◌+◌, ◌-◌, ◌^◌, ◌<◌, ◌≤◌, [], ℕ, List, Some, min, IsSome};
-ghost use Rattle.std.specs.Prelude.{IfOk, IfSome};
+ghost use Rattle.std.specs.Prelude.{◌≡◌, ◌+◌, ◌-◌, ◌^◌, ◌<◌, ◌≤◌, [], ℕ, List, Some, Ok, All};
+ghost use Rattle.std.specs.Prelude.{IfOk, IfSome, IsSome, min};
 ghost use Rattle.t1_frac.specs.Outcome.{Gives, reported_at};
 ghost use Rattle.t1_code.specs.declared.command.Command.{Command as CommandOf};
-ghost use Rattle.t1_run.specs.Composite.{HasStandardParts};
+ghost use Rattle.t1_run.specs.Composite.{HasStandardParts, IsWithin};
 ghost use Rattle.t1_run.specs.Continuing.{Comes, Continues};
 ghost use Rattle.t1_run.specs.Machine.{state_of, Ends};
 ghost use Rattle.t1_run.specs.OwnRuns.{GivesOwn};
-ghost use Rattle.t1_run.specs.Run.{FontBodies, body_stop, outcome_of, own, font};
+ghost use Rattle.t1_run.specs.Run.{FontBodies, body_stop, drawing_of, outcome_of, own, font};
 ghost use Rattle.t1_run.specs.State.{initial};
 
 use crate::bodies::{Bodies, StoredBodies};
 use crate::meter::Meter;
 use crate::outcome::Run;
-use crate::outline::{Composite, Segment};
+use crate::outline::{Composite, Metric, Segment};
 use crate::returns::ReturnStack;
 use crate::seac::find_parts;
 use crate::state::{Control, State};
@@ -97,6 +97,29 @@ fn run_words<'a, B: Bodies>(
     }
 }
 
+/// The run that ended in this state, with this metric.
+fn ended(state: State, metric: Metric, composite: Option<Composite>, serial: u64) -> Run
+    requires within { All IsWithin state.segments.items }
+    requires parts { IfSome composite HasStandardParts }
+    ensures drawing { drawing_of (Some metric) composite (state_of state) ≡ Ok result.drawing }
+    ensures serial { result.serial ≡ serial }
+{
+    let State {
+        segments,
+        entered,
+        steps,
+        ..
+    } = state;
+    Run {
+        metric,
+        segments,
+        composite,
+        entered,
+        steps,
+        serial,
+    }
+}
+
 /// Runs a body to its endchar or seac.
 fn run_body<B: Bodies>(
     alloc: Global,
@@ -115,7 +138,7 @@ fn run_body<B: Bodies>(
     let mut state = State::new(alloc, segments);
     let composite = run_words(alloc, bodies, body, &mut state)?;
     let metric = state.metric.ok_or(Code::F36)?;
-    Ok(Run::ended(state, metric, composite, serial))
+    Ok(ended(state, metric, composite, serial))
 }
 
 /// Runs the own body of a glyph of the font, exactly. The answer is what it draws, or its first

@@ -8,12 +8,10 @@ use crate::stop::Stop;
 use std::alloc::{AllocError, Global};
 use std::io::{Stdout, Write};
 use t1_code::{Counted, OutError};
-use t1_commands::{
-    Print, SessionCommand, answer_of, body_command, line_command, put_answer, takes_body,
-};
+use t1_commands::{Print, SessionCommand, answer_of, body_command, line_command, put_answer};
 use t1_frac::{Bytes, Refusal, next_word};
 use t1_pairs::read_pairs;
-use t1_session::Session;
+use t1_session::{Session, takes_body};
 use t1_source::{Cause, Edit, read_source};
 use t1_text::first_line;
 

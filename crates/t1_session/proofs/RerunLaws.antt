@@ -11,7 +11,7 @@ use Rattle.t1_source.specs.declared.edit.Edit.{Edit}
 use Rattle.t1_pairs.specs.declared.pairs.Pair.{Pair}
 use Rattle.t1_source.specs.Editing.{edited}
 use Rattle.t1_source.specs.WellFormed.{is_counted}
-use Rattle.t1_source.specs.declared.editing.change.Change.{Change}
+use Rattle.t1_source.specs.declared.editing.Change.{Change}
 use Rattle.t1_source.specs.Changes.{changed, Suits}
 use Rattle.t1_run.specs.Run.{Key}
 use Rattle.t1_font.specs.Assembly.{file_check}

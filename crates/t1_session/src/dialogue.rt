@@ -1,17 +1,24 @@
-//! A session in the midst of its input.
-ghost use Rattle.std.specs.Prelude.{◌≡◌, true, ◌∷◌, [], None, Some};
+//! A session over a reader and a writer, in the midst of its input.
+ghost use Rattle.std.specs.Str.{bytes_eq};
+ghost use Rattle.std.specs.Prelude.{◌≡◌, ◌||◌, true, ◌∷◌, [], None, Some};
+ghost use Rattle.t1_frac.specs.Outcome.{Gives};
+ghost use Rattle.t1_frac.specs.Words.{words};
+ghost use Rattle.t1_commands.specs.Commands.{takes_body};
 ghost use Rattle.t1_session.specs.Conversation.{is_unbroken};
 ghost use Rattle.t1_session.specs.LineEnds.{ends_line};
+ghost use Rattle.t1_session.specs.Machine.{scratch};
+ghost use Rattle.t1_session.specs.Serving.{streams, Serves};
 
-use crate::answering::answer_command;
 use crate::error::ServeError;
-use crate::performer::Performer;
+use crate::session::{Performer, Session, answer_command};
 use std::alloc::Global;
-use std::io::Write;
+use std::io::{Read, Write};
 use std::mem;
 use t1_code::Counted;
-use t1_commands::{body_command, ends_body, is_blank_line, line_command, open_command, takes_body};
-use t1_frac::Bytes;
+use t1_commands::{body_command, ends_body, is_blank_line, line_command, open_command};
+use t1_frac::{Bytes, Refusal, next_word};
+use t1_pairs::read_pairs;
+use t1_source::read_source;
 
 /// A command whose body is being read: the line that opened it, and its body so far.
 #[derive(Drop)]
@@ -23,12 +30,47 @@ struct CommandBegun {
 /// A session in the midst of its input: fed pieces of it, it answers each command as soon as its
 /// last line ends.
 #[derive(Drop)]
-pub struct Dialogue<'a> {
+struct Dialogue<'a> {
     session: Performer<'a>,
     opening: Option<CommandBegun>,
     line: Vec<u8>,
     after_return: bool,
     ghost unbroken: { is_unbroken line.items ≡ true },
+}
+
+/// The session of the bytes of a source and of a kerning file, or the first fault: of reading the
+/// source, of the pairs, of the source.
+#[tactic(auto, unfolding(crate::specs::Machine::scratch))]
+fn loaded<'a>(alloc: Global, source: &'a [u8], pairs: &[u8]) -> Result<Performer<'a>, Refusal>
+    ensures { Gives (λ session. session) result (scratch source.now pairs.now) }
+{
+    let source = read_source(alloc, source)?;
+    let pairs = read_pairs(alloc, pairs)?;
+    Ok(Performer::of(Session::open(alloc, source, pairs)?))
+}
+
+/// Runs a session over a source and its pairs: reads commands to the end of the input, and answers
+/// each before the next read.
+pub fn serve<R: Read, W: Write>(
+    alloc: Global,
+    source: &[u8],
+    pairs: &[u8],
+    reader: &mut Counted<R>,
+    writer: &mut Counted<W>,
+) -> Result<(), ServeError>
+    ensures { Serves R.remaining W.contents (scratch source.now pairs.now)
+        (streams reader.old writer.old) (streams reader.new writer.new) result }
+{
+    match loaded(alloc, source, pairs) {
+        Ok(session) => {
+            let mut dialogue = Dialogue::new(alloc, session);
+            let answered = dialogue.converse(alloc, reader, writer);
+            drop(dialogue);
+            answered
+        }
+        Err(Refusal::Fault(fault)) => Err(ServeError::Load(fault)),
+        Err(Refusal::Memory) => Err(ServeError::Memory),
+    }
 }
 
 /// Whether a byte ends a line. An LF after a CR belongs to it.
@@ -38,13 +80,35 @@ fn ends_line(after_return: bool, byte: u8) -> bool
     byte == b'\r' || (byte == b'\n' && !after_return)
 }
 
+/// Whether a word is one of two.
+fn is_either(word: &[u8], one: &[u8], other: &[u8]) -> bool
+    ensures { result ≡ bytes_eq word.now one.now || bytes_eq word.now other.now }
+{
+    word == one || word == other
+}
+
+/// Whether a line takes a body, by its first two words.
+#[tactic(auto, unfolding(t1_commands::specs::Commands::takes_body))]
+pub fn takes_body(line: &[u8]) -> bool
+    ensures { result ≡ takes_body (words line.now) }
+{
+    let Some((verb, rest)) = next_word(line) else {
+        return false;
+    };
+    let Some((kind, _)) = next_word(rest) else {
+        return false;
+    };
+    is_either(verb, b"replace", b"add") && is_either(kind, b"glyph", b"subr")
+}
+
 impl<'a> Dialogue<'a> {
     ghost use Rattle.t1_session.specs.Conversation.{fresh, EndsCommandLine, EndsLine, Feeds};
     ghost use Rattle.t1_session.specs.Conversation.{AnswersTheEnd};
     ghost use Rattle.t1_session.specs.Dialogues.{conversation_of, opening_seen};
+    ghost use Rattle.t1_session.specs.Serving.{Converses};
 
     /// A session before its first byte.
-    pub fn new(alloc: Global, session: Performer<'a>) -> Dialogue<'a>
+    fn new(alloc: Global, session: Performer<'a>) -> Dialogue<'a>
         ensures { conversation_of result ≡ fresh session.entry }
     {
         Dialogue {
@@ -55,8 +119,32 @@ impl<'a> Dialogue<'a> {
         }
     }
 
+    /// Answers the input to its end, from before its first byte.
+    fn converse<R: Read, W: Write>(
+        &mut self,
+        alloc: Global,
+        reader: &mut Counted<R>,
+        writer: &mut Counted<W>,
+    ) -> Result<(), ServeError>
+        requires { conversation_of self.old ≡ fresh self.old.session }
+        ensures { Converses R.remaining W.contents self.old.session (streams reader.old writer.old)
+            (streams reader.new writer.new) result }
+    {
+        let mut buffer = [0; 4096];
+        'pieces: loop {
+            let count = match reader.take(&mut buffer) {
+                Ok(count) => count,
+                Err(_) => return Err(ServeError::Read),
+            };
+            if count == 0 {
+                return self.finish(alloc, writer);
+            }
+            self.feed(alloc, buffer.split_at(count).0, writer)?;
+        }
+    }
+
     /// Takes a piece of the input, and answers each command that it ends.
-    pub fn feed<W: Write>(
+    fn feed<W: Write>(
         &mut self,
         alloc: Global,
         piece: &[u8],
@@ -161,11 +249,7 @@ impl<'a> Dialogue<'a> {
 
     /// Ends the input. A last line without its end counts where it isn't empty; a body that is open
     /// then is a command too. Want of memory is answered as any command is.
-    pub fn finish<W: Write>(
-        &mut self,
-        alloc: Global,
-        writer: &mut Counted<W>,
-    ) -> Result<(), ServeError>
+    fn finish<W: Write>(&mut self, alloc: Global, writer: &mut Counted<W>) -> Result<(), ServeError>
         ensures { AnswersTheEnd W.contents (conversation_of self.old) writer.old writer.new result }
     {
         match self.opening.take() {

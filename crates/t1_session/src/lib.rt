@@ -32,9 +32,9 @@
 //!   is seen as a source and pairs with the entries that edits named (`Draft`), whether these are
 //!   the session's own, what one edit would make of them, or copies (`OpenBatch`, `open_draft`).
 //! - `serve`: `Serves`, by whole lists of commands; what was written by then if reading, writing or
-//!   memory failed; nothing if the source or the pairs are refused.
+//!   memory failed; nothing if the source or the pairs are refused. `takes_body`: the value of the
+//!   definition of this name in `t1_commands`.
 
-mod answering;
 mod assembling;
 mod checking;
 mod dialogue;
@@ -45,14 +45,12 @@ pub mod laws;
 mod measuring;
 mod metrics_line;
 mod open_batch;
-mod performer;
 mod refused;
-mod serving;
 mod session;
 
 pub use assembling::{assemble_blocks, assemble_pfa, assemble_source};
 pub use checking::check_source;
+pub use dialogue::{serve, takes_body};
 pub use error::ServeError;
 pub use measuring::measure_source;
-pub use serving::serve;
 pub use session::Session;

@@ -13,12 +13,10 @@ ghost use Rattle.t1_held.specs.Held.{IsHeld};
 ghost use Rattle.t1_session.specs.Outcomes.{refused_source};
 ghost use Rattle.t1_session.specs.Unnoted.{faulty_batch};
 ghost use Rattle.t1_session.specs.Refusing.{edited_lines, refused_text, rule_line};
-ghost use Rattle.t1_session.specs.KeptRefusals.{refused_after};
 ghost use Rattle.t1_session.specs.KeptRefusals.{fault_of_edited, IsEditOfHeld};
 ghost use Rattle.t1_session.specs.Commits.{RefusesSingle};
 
 use std::alloc::{AllocError, Global};
-use std::mem;
 use t1_commands::push_rule;
 use t1_frac::{Fault, Refusal};
 use t1_held::{Held, prepare_edit};
@@ -261,34 +259,4 @@ pub fn refused_single<'a>(
         // It breaks no rule.
         Err(_) => (Cause::Memory, None),
     }
-}
-
-/// Keeps a refusal by what a call answers, or forgets the last one; this is kept where the source
-/// has a fault.
-pub fn keep<'a>(
-    kept: &mut Option<Refused<'a>>,
-    faulty: Option<Refused<'a>>,
-    answered: &Result<(), Cause>,
-)
-    ensures { kept.new ≡ refused_after faulty.entry kept.old answered.now }
-{
-    match answered {
-        Ok(()) => {
-            drop(faulty);
-            put(kept, None);
-        }
-        Err(Cause::Rule(rule)) => {
-            drop(faulty);
-            put(kept, Some(Refused::Rule(*rule)));
-        }
-        Err(Cause::Fault(_)) => put(kept, faulty),
-        Err(Cause::Memory) => drop(faulty),
-    }
-}
-
-/// Keeps this in the place of what was kept.
-fn put<'a>(kept: &mut Option<Refused<'a>>, refused: Option<Refused<'a>>)
-    ensures { kept.new ≡ refused.entry }
-{
-    drop(mem::replace(kept, refused));
 }

@@ -8,8 +8,8 @@ use Rattle.t1_parts.specs.declared.item.Item.{Item}
 use Rattle.t1_parts.specs.declared.item.Item.TheVariants.{Plain, Section, Subr, Glyph}
 use Rattle.t1_parts.specs.Counts.{raised, subrs_needed}
 use Rattle.t1_parts.specs.SourceParts.{SourceParts}
-use Rattle.t1_source.specs.declared.editing.change.Change.{Change}
-use Rattle.t1_source.specs.declared.editing.change.Change.TheVariants as changes
+use Rattle.t1_source.specs.declared.editing.Change.{Change}
+use Rattle.t1_source.specs.declared.editing.Change.TheVariants as changes
 use Rattle.t1_source.specs.Changes.{changed}
 use Rattle.t1_source.specs.EditedItems.{items_after}
 use Rattle.t1_source.specs.WellFormed.{IsWellFormed}

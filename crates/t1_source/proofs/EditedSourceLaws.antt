@@ -2,8 +2,8 @@
 use Rattle.std.proofs.Common.{◌≡◌, List, refl, sym, subst}
 use Rattle.t1_parts.specs.SourceParts.{SourceParts}
 use Rattle.t1_pairs.specs.declared.pairs.Pair.{Pair}
-use Rattle.t1_source.specs.declared.editing.change.Change.{Change}
-use Rattle.t1_source.specs.declared.editing.change.Change.TheVariants as changes
+use Rattle.t1_source.specs.declared.editing.Change.{Change}
+use Rattle.t1_source.specs.declared.editing.Change.TheVariants as changes
 use Rattle.t1_source.specs.Changes.{changed, made_after, IsFor}
 use Rattle.t1_source.specs.WellFormed.{IsWellFormed}
 

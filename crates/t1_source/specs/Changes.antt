@@ -1,13 +1,13 @@
 -- What edits change of a source and its pairs.
-use Rattle.std.specs.Prelude.{◌≡◌, ◌<◌, ◌≤◌, Bool, true, false, List, [], length}
+use Rattle.std.specs.Prelude.{◌≡◌, ◌<◌, ◌≤◌, Bool, true, false, List, [], length, ℕ, None, Option, Some}
 use Rattle.std.specs.List.{insert, remove, slice_set, slice_index_or}
 use Rattle.t1_parts.specs.declared.item.Item.{Item}
 use Rattle.t1_parts.specs.declared.item.Item.TheVariants.{Plain, Subr, Glyph}
 use Rattle.t1_parts.specs.Items.{is_entry}
 use Rattle.t1_parts.specs.Stretches.{StandsAloneAt}
 use Rattle.t1_parts.specs.SourceParts.{SourceParts}
-use Rattle.t1_source.specs.declared.editing.change.Change.{Change}
-use Rattle.t1_source.specs.declared.editing.change.Change.TheVariants.{PutItem, InsertItem, RemoveItem, PutClear, PutPair, InsertPair, RemovePair}
+use Rattle.t1_source.specs.declared.editing.Change.{Change}
+use Rattle.t1_source.specs.declared.editing.Change.TheVariants.{PutItem, InsertItem, RemoveItem, PutClear, PutPair, InsertPair, RemovePair}
 use Rattle.t1_pairs.specs.declared.pairs.Pair.{Pair}
 use Rattle.t1_source.specs.Editing.{with_items, with_clear}
 use Rattle.t1_pairs.specs.Kerning.{are_pairs}
@@ -36,6 +36,36 @@ is_entry_changed (PutClear lines) s = true
 is_entry_changed (PutPair at pair) s = true
 is_entry_changed (InsertPair at pair) s = true
 is_entry_changed (RemovePair at) s = true
+
+-- word, edits: where the item stands that a change takes out, or in whose place it puts another
+abbrev pub taken_by : Change → Option ℕ
+taken_by (PutItem at item) = Some at
+taken_by (InsertItem at item) = None
+taken_by (RemoveItem at) = Some at
+taken_by (PutClear lines) = None
+taken_by (PutPair at pair) = None
+taken_by (InsertPair at pair) = None
+taken_by (RemovePair at) = None
+
+-- word, edits: the item that a change puts in
+abbrev pub put_by : Change → Option Item
+put_by (PutItem at item) = Some item
+put_by (InsertItem at item) = Some item
+put_by (RemoveItem at) = None
+put_by (PutClear lines) = None
+put_by (PutPair at pair) = None
+put_by (InsertPair at pair) = None
+put_by (RemovePair at) = None
+
+-- word, edits: whether a change is one of the pairs, which leaves the source as it is
+abbrev pub is_of_pairs : Change → Bool
+is_of_pairs (PutItem at item) = false
+is_of_pairs (InsertItem at item) = false
+is_of_pairs (RemoveItem at) = false
+is_of_pairs (PutClear lines) = false
+is_of_pairs (PutPair at pair) = true
+is_of_pairs (InsertPair at pair) = true
+is_of_pairs (RemovePair at) = true
 
 -- word, edits: both are plain lines, the Subr of one number, or the glyph of one name
 abbrev pub IsInPlaceOf : Item → Item → Type 0

@@ -2,8 +2,8 @@
 use Rattle.std.specs.Prelude.{◌++◌, List}
 use Rattle.std.specs.List.{insert, remove, slice_set}
 use Rattle.t1_parts.specs.declared.item.Item.{Item}
-use Rattle.t1_source.specs.declared.editing.change.Change.{Change}
-use Rattle.t1_source.specs.declared.editing.change.Change.TheVariants.{PutItem, InsertItem, RemoveItem}
+use Rattle.t1_source.specs.declared.editing.Change.{Change}
+use Rattle.t1_source.specs.declared.editing.Change.TheVariants.{PutItem, InsertItem, RemoveItem}
 use Rattle.t1_source.specs.declared.editing.edited_items.EditedItems.{EditedItems}
 
 -- word, edits: the items after a change, before their counts are raised

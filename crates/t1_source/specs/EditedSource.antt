@@ -2,7 +2,7 @@
 use Rattle.std.specs.Prelude.{Bool, not, nat_eq, Option, Some, None}
 use Rattle.t1_parts.specs.LenIV.{lead}
 use Rattle.t1_parts.specs.SourceParts.{SourceParts}
-use Rattle.t1_source.specs.declared.editing.change.Change.{Change}
+use Rattle.t1_source.specs.declared.editing.Change.{Change}
 use Rattle.t1_source.specs.Changes.{is_entry_changed, made_after, IsFor}
 use Rattle.t1_source.specs.WellFormed.{IsWellFormed}
 

@@ -1,9 +1,11 @@
 //! A source that was read.
 
 use crate::codes::{array_code, array_names, standard_code, standard_names};
+use crate::editing::Change;
 use std::alloc::{AllocError, Global};
 use std::marker::Model;
 use t1_frac::{Bytes, Refusal};
+use t1_pairs::Pairs;
 use t1_parts::{
     Item, Items, ReadParts, has_standard, header_of, operator_of, push_items, push_lines, raise,
     read_parts,
@@ -36,7 +38,7 @@ impl<'a> Model for Source<'a> {
 }
 
 ghost use Rattle.std.specs.Prelude.{◌≡◌, ◌<◌, ◌≤◌, ◌++◌, ◌∷◌, ℕ, [], length, slice_set};
-ghost use Rattle.std.specs.Prelude.{slice_index_or, IfOk, IsOk, OnOk, OnErr, option_map};
+ghost use Rattle.std.specs.Prelude.{slice_index_or, IfOk, IsOk, OnOk, OnErr, option_map, false};
 ghost use Rattle.std.specs.List.{insert, remove};
 ghost use Rattle.t1_frac.specs.Outcome.{Gives};
 ghost use Rattle.t1_text.specs.Lines.{lines};
@@ -48,7 +50,7 @@ ghost use Rattle.t1_parts.specs.Header.{header};
 ghost use Rattle.t1_source.specs.Codes.{code_of, name_at, name_of_code};
 ghost use Rattle.t1_parts.specs.Stretches.{StandsAloneAt};
 ghost use Rattle.t1_parts.specs.Printing.{text};
-ghost use Rattle.t1_source.specs.Changes.{IsInPlaceOf};
+ghost use Rattle.t1_source.specs.Changes.{changed, takes_room, IsInPlaceOf, Suits};
 ghost use Rattle.t1_source.specs.Editing.{with_items, with_clear};
 ghost use Rattle.t1_parts.specs.declared.item.Item.TheVariants as variants;
 
@@ -238,5 +240,34 @@ impl<'a> Source<'a> {
         ensures { self.new ≡ with_clear self.old clear.items }
     {
         self.clear = clear;
+    }
+
+    /// Makes a change that was prepared for this source and these pairs. Only an item or a pair
+    /// that is put in takes memory: where it runs out, nothing has changed.
+    pub fn commit(&mut self, pairs: &mut Pairs, change: Change<'a>) -> Result<(), AllocError>
+        requires { Suits change self.old pairs.old }
+        ensures source { OnOk result (self.new ≡ (changed change.entry self.old pairs.old).0) }
+        ensures pairs { OnOk result (pairs.new ≡ (changed change.entry self.old pairs.old).1) }
+        ensures err { OnErr result ((self.new ≡ self.old) × (pairs.new ≡ pairs.old)) }
+        ensures still { takes_room change.entry ≡ false → IsOk result }
+    {
+        match change {
+            Change::PutItem(at, item) => self.put_item(at, item),
+            Change::InsertItem(at, item) => self.insert_item(at, item),
+            Change::RemoveItem(at) => self.remove_item(at),
+            Change::PutClear(lines) => {
+                self.put_clear(lines);
+                Ok(())
+            }
+            Change::PutPair(at, pair) => {
+                pairs.put(at, pair);
+                Ok(())
+            }
+            Change::InsertPair(at, pair) => pairs.insert(at, pair),
+            Change::RemovePair(at) => {
+                pairs.remove(at);
+                Ok(())
+            }
+        }
     }
 }

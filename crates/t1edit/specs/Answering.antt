@@ -1,6 +1,6 @@
 -- What calls within the program answer.
 use Rattle.std.specs.Prelude.{◌≡◌, ℕ, Bool, List, Option, Result, Ok, Err}
-use Rattle.t1edit.specs.declared.assembling.OutputForm.{OutputForm}
+use Rattle.t1edit.specs.declared.source_file.OutputForm.{OutputForm}
 use Rattle.t1edit.specs.declared.status.Stop.{Stop}
 use Rattle.t1edit.specs.Assembling.{form}
 use Rattle.t1edit.specs.declared.file_error.FileError.{FileError}

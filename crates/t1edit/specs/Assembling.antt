@@ -5,8 +5,8 @@ use Rattle.t1_code.specs.Pfb.{whole_file}
 use Rattle.t1_commands.specs.Blocks.{block_size}
 use Rattle.t1_commands.specs.Commands.{number_of}
 use Rattle.t1_session.specs.Files.{assembled, assembled_pfa}
-use Rattle.t1edit.specs.declared.assembling.OutputForm.{OutputForm}
-use Rattle.t1edit.specs.declared.assembling.OutputForm.TheVariants.{Pfb, Blocks, Pfa}
+use Rattle.t1edit.specs.declared.source_file.OutputForm.{OutputForm}
+use Rattle.t1edit.specs.declared.source_file.OutputForm.TheVariants.{Pfb, Blocks, Pfa}
 use Rattle.t1edit.specs.declared.status.Misuse.TheVariants.{BlockLength}
 use Rattle.t1edit.specs.declared.status.Stop.{Stop}
 use Rattle.t1edit.specs.declared.status.Stop.TheVariants.{Misused}

@@ -8,7 +8,7 @@ use Rattle.t1edit.specs.Reading.{TellsUnread}
 use Rattle.t1edit.specs.Several.{AreWritten, answer_lines, status_of_answer}
 use Rattle.t1edit.specs.Sources.{OnSource, source_in}
 use Rattle.t1edit.specs.declared.file_error.FileError.{FileError}
-use Rattle.t1edit.specs.declared.kind.Kind.{Kind}
+use Rattle.t1edit.specs.declared.source_file.Kind.{Kind}
 use Rattle.t1edit.specs.declared.unread.Unread.{Unread}
 
 -- profile: a text went out, and it is said whether it finds something; a beginning of it, and then a write failed; or

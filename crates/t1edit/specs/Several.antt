@@ -9,7 +9,7 @@ use Rattle.t1edit.specs.Sources.{source_in}
 use Rattle.t1edit.specs.Status.{IsWritten, line_with}
 use Rattle.t1edit.specs.declared.file_error.FileError.{FileError}
 use Rattle.t1edit.specs.declared.file_error.FileError.TheVariants.{Served}
-use Rattle.t1edit.specs.declared.kind.Kind.{Kind}
+use Rattle.t1edit.specs.declared.source_file.Kind.{Kind}
 use Rattle.t1edit.specs.declared.unread.Unread.{Unread}
 
 -- profile: what becomes of a file: why it can't be read, or what judging its source with the kerning answers

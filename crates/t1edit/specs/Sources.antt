@@ -6,8 +6,8 @@ use Rattle.t1_session.specs.declared.error.ServeError.{ServeError}
 use Rattle.t1_session.specs.declared.error.ServeError.TheVariants as errors
 use Rattle.t1edit.specs.declared.file_error.FileError.{FileError}
 use Rattle.t1edit.specs.declared.file_error.FileError.TheVariants.{Served, Unread, Font}
-use Rattle.t1edit.specs.declared.kind.Kind.{Kind}
-use Rattle.t1edit.specs.declared.kind.Kind.TheVariants as kinds
+use Rattle.t1edit.specs.declared.source_file.Kind.{Kind}
+use Rattle.t1edit.specs.declared.source_file.Kind.TheVariants as kinds
 
 -- profile: with --font the source is a font's file
 abbrev pub kind_of : Bool → Kind

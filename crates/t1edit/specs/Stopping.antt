@@ -3,18 +3,12 @@ use Rattle.std.specs.Prelude.{Result, Ok, Err}
 use Rattle.t1_session.specs.declared.error.ServeError.{ServeError}
 use Rattle.t1_session.specs.declared.error.ServeError.TheVariants.{Write, Memory}
 use Rattle.t1_session.specs.LiftedErrors.{reported_by_refusal}
-use Rattle.t1edit.specs.declared.file_error.FileError.{FileError}
 use Rattle.t1edit.specs.declared.file_error.FileError.TheVariants.{Served}
 use Rattle.t1edit.specs.declared.status.Stop.{Stop}
 use Rattle.t1edit.specs.declared.status.Stop.TheVariants.{Failed}
 use Rattle.t1edit.specs.declared.unopened.Unopened.{Unopened}
 use Rattle.t1edit.specs.declared.unopened.Unopened.TheVariants as unopened
 use Rattle.t1_frac.specs.declared.fault.Refusal.{Refusal}
-
--- word: what a call over a source answers, as one over a file
-abbrev pub served : {T : Type 0} → Result T ServeError → Result T FileError
-served (Ok done) = Ok done
-served (Err error) = Err (Served error)
 
 -- word: a call over a source stopped
 abbrev pub stop_of_serving : ServeError → Stop

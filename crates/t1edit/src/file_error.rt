@@ -2,7 +2,6 @@
 ghost use Rattle.std.specs.Prelude.{◌≡◌};
 ghost use Rattle.t1_code.specs.Writing.{Writes};
 ghost use Rattle.t1edit.specs.FileErrors.{file_error_text, status_of_file};
-ghost use Rattle.t1edit.specs.Stopping.{served};
 ghost use Rattle.t1edit.specs.Status.{line_with};
 
 use crate::line::put_text_line;
@@ -25,6 +24,17 @@ pub enum FileError {
     Font(FontFault),
 }
 
+impl From<ServeError> for FileError {
+    ghost use Rattle.std.specs.Prelude.{◌≡◌};
+    ghost use Rattle.t1edit.specs.declared.file_error.FileError.TheVariants.{Served};
+
+    ghost from_gives = { λ error told. told ≡ Served error };
+
+    fn from(error: ServeError) -> FileError {
+        FileError::Served(error)
+    }
+}
+
 impl From<FontRefusal> for FileError {
     ghost use Rattle.std.specs.Prelude.{◌≡◌};
     ghost use Rattle.t1edit.specs.FileErrors.{told_of_font};
@@ -36,16 +46,6 @@ impl From<FontRefusal> for FileError {
             FontRefusal::Fault(fault) => FileError::Font(fault),
             FontRefusal::Memory => FileError::Served(ServeError::Memory),
         }
-    }
-}
-
-/// What a call over a source answers, as one over a file.
-pub fn served<T: Drop>(answer: Result<T, ServeError>) -> Result<T, FileError>
-    ensures { result ≡ served answer }
-{
-    match answer {
-        Ok(done) => Ok(done),
-        Err(error) => Err(FileError::Served(error)),
     }
 }
 

@@ -5,17 +5,7 @@ ghost use Rattle.t1_code.specs.Parts.{slices_bytes};
 ghost use Rattle.t1edit.specs.Status.{line_with};
 
 use std::io::{self, Write};
-use t1_code::{Chunk, Counted, put_slices};
-
-/// Writes slices, one after another, by way of a chunk: one call of the writer takes up to 4,096
-/// bytes of them.
-fn write_slices<W: Write>(writer: &mut Counted<W>, slices: &[&[u8]]) -> io::Result<()>
-    ensures { Writes W.contents writer.old writer.new (slices_bytes slices.now) result }
-{
-    let mut chunk = Chunk::new();
-    put_slices(writer, &mut chunk, slices)?;
-    chunk.send(writer)
-}
+use t1_code::{Counted, write_slices};
 
 /// A line that holds a text after what begins it, in slices.
 fn line_slices<'a>(front: &'a [u8], text: &'a [u8]) -> [&'a [u8]; 3]

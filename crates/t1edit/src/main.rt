@@ -29,8 +29,9 @@
 //!   gives it its permissions (`draft/steps.rt`). That these three do so, and what else becomes of
 //!   files, is tested.
 
-mod assembling;
-mod checking;
+ghost use Rattle.std.specs.Prelude.{option_map};
+ghost use Rattle.t1edit.specs.Answering.{FormIs};
+
 mod disassembling;
 mod draft;
 mod explaining;
@@ -40,23 +41,19 @@ mod file_error;
 mod finding;
 mod identity;
 mod input;
-mod kind;
 mod line;
 mod links;
-mod measuring;
 mod noting;
 mod numbered_lines;
 mod output;
 mod overwriting;
 mod reporting;
-mod serving;
 mod several;
+mod source_file;
 mod status;
 mod unopened;
 mod unread;
 
-use assembling::{assemble_file, form_of};
-use checking::check_file;
 use clap::error::ErrorKind;
 use clap::{ArgMatches, Error};
 use disassembling::disassemble_to;
@@ -64,19 +61,18 @@ use explaining::explain;
 use file_error::FileError;
 use finding::{Faults, Sought, layout_of};
 use input::{is_standard_input, read_file, read_input};
-use kind::{Kind, kind_of};
-use measuring::measure_file;
 use noting::Notes;
 use output::{Ended, Output};
 use overwriting::{refuse_over_font, refuse_over_input};
 use reporting::{Report, report_files};
-use serving::serve_file;
 use several::{check_files, tell};
+use source_file::{Kind, OutputForm, assemble_file, check_file, kind_of, measure_file, serve_file};
 use status::{Misuse, Stop, run_ending, told};
 use std::process::ExitCode;
 use std::{env, io};
 use t1_code::Counted;
 use t1_command_line::{all_sections, command};
+use t1_commands::block_size_of_word;
 use t1_session::ServeError;
 use unread::with_reason;
 
@@ -146,6 +142,22 @@ fn output_path<'a>(rt: &HostRuntime, matches: &ArgMatches<'a>) -> Result<Option<
 /// What an answer of the calls over files is to a run.
 fn run_answer(answer: Result<(), FileError>) -> Result<(), Stop> {
     Ok(answer?)
+}
+
+/// The form that the options ask for, a block length being 1 to 2147483647.
+fn form_of(pfa: bool, block: Option<&str>) -> Result<OutputForm, Stop>
+    ensures { FormIs pfa (option_map (λ word. word.now) block.entry) result }
+{
+    if pfa {
+        return Ok(OutputForm::Pfa);
+    }
+    let Some(word) = block else {
+        return Ok(OutputForm::Pfb);
+    };
+    match block_size_of_word(word.as_bytes()) {
+        Some(size) => Ok(OutputForm::Blocks(size)),
+        None => Err(Stop::Misused(Misuse::BlockLength)),
+    }
 }
 
 /// Writes the PFB file of a source, in blocks where their length is given, or its PFA file.

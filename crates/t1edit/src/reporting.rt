@@ -1,12 +1,13 @@
 //! What is written of files in turn, on standard output.
+
 ghost use Rattle.std.specs.Prelude.{◌≡◌};
 ghost use Rattle.t1edit.specs.Reporting.{InOrder, PutsReport, ReportsEach, ReportsFile};
 ghost use Rattle.t1edit.specs.Reporting.{ReportsPath, has_found, told_of};
 ghost use Rattle.t1edit.specs.Sources.{OnSource, source_in as source_in_file};
 
-use crate::file_error::{FileError, served};
-use crate::kind::{Kind, source_in};
+use crate::file_error::FileError;
 use crate::several::{Files, tell};
+use crate::source_file::{Kind, source_in};
 use crate::status::FAULT;
 use crate::unread::with_reason;
 use std::alloc::{AllocError, Global};
@@ -68,7 +69,7 @@ fn report_on<R: Report, W: Write>(
         (R.finds report.now source) out.old out.new answer) result }
 {
     let source = source_in(alloc, kind, file)?;
-    served(put_report(alloc, report, path, &source, out))
+    Ok(put_report(alloc, report, path, &source, out)?)
 }
 
 /// Reads a file, and writes what is told of its source.

@@ -1,4 +1,5 @@
 //! Several files, checked in turn.
+
 ghost use Rattle.std.specs.Prelude.{◌≡◌};
 ghost use Rattle.t1_code.specs.Writing.{Writes};
 ghost use Rattle.t1edit.specs.FileErrors.{file_error_text};
@@ -6,10 +7,9 @@ ghost use Rattle.t1edit.specs.Several.{AreWritten, Becomes, ChecksAll};
 ghost use Rattle.t1edit.specs.Several.{answer_lines, front_of, status_of_answer};
 ghost use Rattle.t1edit.specs.Status.{line_with};
 
-use crate::checking::check_file;
 use crate::file_error::{FileError, put_file_error, status_of_file};
 use crate::input::read_file;
-use crate::kind::Kind;
+use crate::source_file::{Kind, check_file};
 use crate::unread::{Unread, error_of};
 use std::alloc::Global;
 use std::io::{self, Write};

@@ -18,7 +18,8 @@ ghost use Rattle.t1_held.specs.Passing.{items_put, mark_at, put_of, removed_at, 
 use crate::batch::entries::EditedEntry;
 use crate::batch::marks::Marks;
 use std::alloc::{AllocError, Global};
-use t1_font::{OwnedKey, compiled_glyph, compiled_subr};
+use t1_code::{compiled_glyph, compiled_subr};
+use t1_font::OwnedKey;
 use t1_frac::{Bytes, Refusal, Words};
 use t1_parts::Items;
 use t1_rerun::EntryChange;

@@ -7,7 +7,7 @@ ghost use Rattle.t1_parts.specs.LenIV.{lead_among, says_lead};
 ghost use Rattle.t1_parts.specs.Operator.{operator_among, reads_strings};
 ghost use Rattle.t1_source.specs.EditedItems.{edited_items, items_after};
 
-use crate::editing::change::Change;
+use crate::editing::Change;
 use std::alloc::AllocError;
 use std::cmp;
 use t1_parts::{

@@ -7,7 +7,7 @@ ghost use Rattle.t1_source.specs.Editing.{beside_source, kerned, unkerned};
 ghost use Rattle.t1_source.specs.EditOutcomes.{Edits};
 
 use crate::edit::{Cause, Rule};
-use crate::editing::change::Change;
+use crate::editing::Change;
 use crate::editing::rules::{good_name, kerning_number};
 use std::alloc::{AllocError, Global};
 use t1_frac::Bytes;

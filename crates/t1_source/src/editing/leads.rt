@@ -13,7 +13,7 @@ ghost use Rattle.t1_source.specs.Leads.{line_with_lead, place_after, says_lead};
 ghost use Rattle.t1_pairs.specs.declared.pairs.Pair.{Pair};
 
 use crate::edit::Cause;
-use crate::editing::change::Change;
+use crate::editing::Change;
 use crate::editing::rules::number_up_to;
 use crate::source::Source;
 use std::alloc::{AllocError, Global};

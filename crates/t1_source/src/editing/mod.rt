@@ -1,40 +1,57 @@
 //! Edits of a source and its pairs, in two steps: what an edit changes is made first, then it is
 //! put in place.
 
-mod change;
 mod edited_items;
 mod edited_source;
 mod entries;
-mod glyphs;
 mod hint;
 mod kerning;
 mod leads;
-mod places;
 mod rules;
 mod slots;
-mod subrs;
 
-ghost use Rattle.std.specs.Prelude.{◌≡◌, ◌-◌, ◌<◌, ◌≤◌, IfOk, IfSome, IsOk, OnOk, OnErr, false};
+ghost use Rattle.std.specs.Prelude.{◌≡◌, ◌-◌, ◌<◌, ◌≤◌, IfOk, IfSome};
 ghost use Rattle.std.specs.Prelude.{unwrap_or};
-ghost use Rattle.t1_source.specs.Changes.{changed, Fits, Suits, takes_room};
+ghost use Rattle.t1_source.specs.Changes.{changed, Fits, Suits};
 ghost use Rattle.t1_source.specs.Editing.{edited};
 ghost use Rattle.t1_source.specs.EditOutcomes.{Edits};
 ghost use Rattle.t1_source.specs.Hints.{IsTrueOfEdit};
 
 use crate::edit::{Cause, Edit};
-use crate::editing::glyphs::{adding_glyph, removing_glyph, replacing_glyph};
+use crate::editing::entries::{
+    adding_glyph, adding_subr, removing_glyph, removing_subr, replacing_glyph, replacing_subr,
+};
 use crate::editing::kerning::{kerning_pair, unkerning_pair};
 use crate::editing::leads::putting_lead;
 use crate::editing::slots::{encoding_code, unencoding_code};
-use crate::editing::subrs::{adding_subr, removing_subr, replacing_subr};
 use crate::source::Source;
-pub use change::Change;
 pub use edited_items::EditedItems;
 pub use edited_source::EditedSource;
 pub use hint::Hint;
 pub use rules::body_words;
 use std::alloc::AllocError;
-use t1_pairs::Pairs;
+use t1_frac::Bytes;
+use t1_pairs::{Pair, Pairs};
+use t1_parts::Item;
+
+/// What an edit changes of a source or of its pairs.
+#[derive(Drop)]
+pub enum Change<'a> {
+    /// The item at a place is replaced by one of its kind and key.
+    PutItem(usize, Item<'a>),
+    /// A new item comes to stand at a place, and the counts are raised.
+    InsertItem(usize, Item<'a>),
+    /// The item at a place is taken out.
+    RemoveItem(usize),
+    /// The clear part gets other lines.
+    PutClear(Vec<Bytes>),
+    /// The pair at a place is replaced by one of its names.
+    PutPair(usize, Pair),
+    /// A new pair comes to stand at a place.
+    InsertPair(usize, Pair),
+    /// The pair at a place is taken out.
+    RemovePair(usize),
+}
 
 /// How many elements stand through one after which so many stand, or none where there is no such
 /// one.
@@ -117,35 +134,6 @@ impl<'a> Source<'a> {
         let _count = pairs.len();
         let change = self.found_change(pairs, edit, hint)?;
         Ok(change)
-    }
-
-    /// Makes a change that was prepared for this source and these pairs. Only an item or a pair
-    /// that is put in takes memory: where it runs out, nothing has changed.
-    pub fn commit(&mut self, pairs: &mut Pairs, change: Change<'a>) -> Result<(), AllocError>
-        requires { Suits change self.old pairs.old }
-        ensures source { OnOk result (self.new ≡ (changed change.entry self.old pairs.old).0) }
-        ensures pairs { OnOk result (pairs.new ≡ (changed change.entry self.old pairs.old).1) }
-        ensures err { OnErr result ((self.new ≡ self.old) × (pairs.new ≡ pairs.old)) }
-        ensures still { takes_room change.entry ≡ false → IsOk result }
-    {
-        match change {
-            Change::PutItem(at, item) => self.put_item(at, item),
-            Change::InsertItem(at, item) => self.insert_item(at, item),
-            Change::RemoveItem(at) => self.remove_item(at),
-            Change::PutClear(lines) => {
-                self.put_clear(lines);
-                Ok(())
-            }
-            Change::PutPair(at, pair) => {
-                pairs.put(at, pair);
-                Ok(())
-            }
-            Change::InsertPair(at, pair) => pairs.insert(at, pair),
-            Change::RemovePair(at) => {
-                pairs.remove(at);
-                Ok(())
-            }
-        }
     }
 
     /// Copies of the source and the pairs.

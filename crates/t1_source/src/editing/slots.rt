@@ -11,9 +11,8 @@ ghost use Rattle.t1_source.specs.Editing.{unencoded};
 ghost use Rattle.t1_pairs.specs.declared.pairs.Pair.{Pair};
 
 use crate::edit::{Cause, Rule};
-use crate::editing::change::Change;
 use crate::editing::rules::{good_name, keeps, number_up_to};
-use crate::editing::through;
+use crate::editing::{Change, through};
 use crate::source::Source;
 use std::alloc::{AllocError, Global};
 use t1_frac::Bytes;

@@ -1,8 +1,7 @@
-use Rattle.std.proofs.Common.{◌≤◌, ◌<◌, ◌+◌, ◌-◌, ℕ, List, drop, length, take, ◌≡◌, ◌∙◌, ap, arith, subst, sym}
+use Rattle.std.proofs.Common.{◌≤◌, ◌+◌, ◌-◌, ℕ, List, drop, length, take, ◌≡◌, ◌∙◌, ap, arith, subst, sym}
 use Rattle.std.specs.Prelude.{flat_map, max}
 use Rattle.std.proofs.lemmas.List.{length-drop}
 use Rattle.std.proofs.lemmas.Result.{err_from_is_err_and}
-use Rattle.t1_code.specs.Writing.{outlet}
 use Rattle.t1_code.proofs.Writing.{passing, Written, Written-step, Written-fails}
 use Rattle.t1_afm.specs.declared.metrics.CharMetric.{CharMetric}
 use Rattle.t1_afm.specs.Afm.{char_line, line_text}
@@ -14,9 +13,9 @@ returns-in_err-put_filled g c =
     let text : CharMetric → List ℕ = λ x. line_text (char_line x) in
     let chars = c.args.chars.now in
     let rest = c.split_at.result.1.now in
-    let start = outlet c.args.out.now c.args.chunk.now in
-    let before = outlet c.loop-at.out c.loop-at.chunk in
-    let after = outlet c.put_filled.new.out c.put_filled.new.chunk in
+    let start = c.args.outlet.now in
+    let before = c.loop-at.outlet in
+    let after = c.put_filled.new.outlet in
     let count = max c.fill-filled.result.count 1 in
     let parts = lines_cut text chars rest c.loop-at.at count c.split_at.ensures.back in
     rw (err_from_is_err_and c.from_residual.result c.from_residual.ensures.1).1
@@ -28,9 +27,9 @@ loop-at-preserved g c =
     let text : CharMetric → List ℕ = λ x. line_text (char_line x) in
     let chars = c.args.chars.now in
     let rest = c.split_at.result.1.now in
-    let start = outlet c.args.out.now c.args.chunk.now in
-    let before = outlet c.loop-at.out c.loop-at.chunk in
-    let after = outlet c.put_filled.new.out c.put_filled.new.chunk in
+    let start = c.args.outlet.now in
+    let before = c.loop-at.outlet in
+    let after = c.put_filled.new.outlet in
     let count = max c.fill-filled.result.count 1 in
     let parts = lines_cut text chars rest c.loop-at.at count c.split_at.ensures.back in
     let long : length rest ≡ length chars - c.loop-at.at = ap (λ (l : List CharMetric). length l) c.split_at.ensures.back ∙ length-drop c.loop-at.at chars in

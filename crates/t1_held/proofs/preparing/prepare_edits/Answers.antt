@@ -1,4 +1,4 @@
-use Rattle.std.proofs.Common.{◌≡◌, ◌∙◌, ap, refl, rules, subst, sym, Err, Ok}
+use Rattle.std.proofs.Common.{◌≡◌, ◌∙◌, ap, refl, subst, sym, Err, Ok}
 use Rattle.std.proofs.lemmas.Result.{err_from_is_err_and}
 use Rattle.t1_frac.specs.declared.fault.Refusal.TheVariants as refusals
 use Rattle.t1_frac.specs.Outcome.{Refuses}
@@ -9,22 +9,23 @@ use Rattle.t1_font.specs.RunCounts.{counted}
 use Rattle.t1_cache.specs.Edited.{stale}
 use Rattle.t1_charstrings.specs.Batch.{AreEdits}
 use Rattle.t1_charstrings.specs.Ready.{IsReadyLines}
+use Rattle.t1_rerun.specs.Settled.{changed_keys}
 use Rattle.t1_rerun.proofs.Judged.{file-refused}
 use Rattle.t1_rerun.proofs.Preparing.{as-self}
 use Rattle.t1_held.specs.declared.held.ReadyHeld.{ReadyHeld}
 use Rattle.t1_held.specs.Entries.{fresh_in, gone_keys}
 use Rattle.t1_held.specs.Ready.{EncryptsAt}
 use Rattle.t1_held.proofs.CommitLaws.{changes_of, edits_are, runs_are}
-use Rattle.t1_held.proofs.Encrypting.{none_fresh}
+use Rattle.t1_held.proofs.Encrypting.{encrypts_same}
 use Rattle.t1_held.proofs.HeldLaws.{counts_none, made_of_held, still_held}
 use Rattle.t1_held.proofs.preparing.prepare_edits.Goals as goal
 
-pub prepare_lines-requires-clause-prepared : goal.prepare_lines-requires-clause-prepared
-prepare_lines-requires-clause-prepared c =
+pub lines_of_edits-requires-clause-prepared : goal.lines_of_edits-requires-clause-prepared
+lines_of_edits-requires-clause-prepared c =
     made_of_held c.requires.0 c.requires.1.0 c.args.held.now c.args.edits c.requires.1.1
 
-pub prepare_lines-requires-clause-edits : goal.prepare_lines-requires-clause-edits
-prepare_lines-requires-clause-edits c =
+pub lines_of_edits-requires-clause-edits : goal.lines_of_edits-requires-clause-edits
+lines_of_edits-requires-clause-edits c = λ entries fresh gone.
     let e = c.args.edits in
     let s = e.source.now in
     let made = c.requires.1.0 in
@@ -32,20 +33,14 @@ prepare_lines-requires-clause-edits c =
     let charstrings = c.args.held.now.charstrings in
     let changes = e.changes.items in
     let are = right.changes in
-    let entries = c.in_ok-entries.ensures in
-    subst (λ m. AreEdits s m charstrings c.in_ok-entries.entries) (sym right.made)
-    (edits_are s made changes charstrings c.in_ok-entries.entries right.held.encrypted right.well are.compiled are.edited are.keys are.bodies
-    (λ k. entries.fresh k ∙ ap (λ l. fresh_in (lead s) l k) c.deref.ensures.value)
-    (entries.gone ∙ ap gone_keys c.deref.ensures.value))
-
-pub returns-in_err-entries-clause-counted : goal.returns-in_err-entries-clause-counted
-returns-in_err-entries-clause-counted c = λ ks made right.
-    let is : c.from_residual.result ≡ Err refusals.Memory = search rules in
-    counts_none (stale c.args.edits.source.now ks made) (file_check made) c.args.meter.now c.from_residual.result refusals.Memory is tt
+    subst (λ m. AreEdits s m charstrings entries) (sym right.made)
+    (edits_are s made changes charstrings entries right.held.encrypted right.well are.compiled are.edited are.keys are.bodies
+    (λ k. fresh k ∙ ap (λ l. fresh_in (lead s) l k) c.deref.ensures.value)
+    (gone ∙ ap gone_keys c.deref.ensures.value))
 
 pub returns-in_err-lines-clause-checked : goal.returns-in_err-lines-clause-checked
 returns-in_err-lines-clause-checked c = λ ks made right.
-    let p = err_from_is_err_and c.from_residual-in_err-lines.result c.from_residual-in_err-lines.ensures.1 in
+    let p = err_from_is_err_and c.from_residual.result c.from_residual.ensures.1 in
     let r = c.in_err-lines.field-0.0 in
     rw (p.1, p.2) (file-refused made r (subst (λ m. Refuses r (file_check m)) right.made c.in_err-lines.ensures.judged))
 
@@ -55,9 +50,9 @@ returns-in_err-lines-clause-held c =
 
 pub returns-in_err-lines-clause-counted : goal.returns-in_err-lines-clause-counted
 returns-in_err-lines-clause-counted c = λ ks made right.
-    let p = err_from_is_err_and c.from_residual-in_err-lines.result c.from_residual-in_err-lines.ensures.1 in
+    let p = err_from_is_err_and c.from_residual.result c.from_residual.ensures.1 in
     let r = c.in_err-lines.field-0.0 in
-    counts_none (stale c.args.edits.source.now ks made) (file_check made) c.args.meter.now c.from_residual-in_err-lines.result r (rw (p.1, p.2) refl)
+    counts_none (stale c.args.edits.source.now ks made) (file_check made) c.args.meter.now c.from_residual.result r (rw (p.1, p.2) refl)
     (subst (λ m. Refuses r (file_check m)) right.made c.in_err-lines.ensures.judged)
 
 pub prepare_changes-requires : goal.prepare_changes-requires
@@ -97,16 +92,15 @@ returns-in-Ok-clause-ready c = λ ks made right.
       changes = e.changes.items;
       same = right.changes.same;
       records = c.in-Ok.ensures.ready e.source.now made (changes_of ks made c.args.held.now e right c.in_ok-lines.ensures.judged);
-      lines = subst (λ m. IsReadyLines m c.prepare_lines.new.charstrings c.in_ok-lines.lines) right.made c.in_ok-lines.ensures.ready;
+      lines = subst (λ m. IsReadyLines m c.lines_of_edits.new.charstrings c.in_ok-lines.lines) right.made c.in_ok-lines.ensures.ready;
     }
 
 pub returns-in-Ok-clause-encrypted : goal.returns-in-Ok-clause-encrypted
 returns-in-Ok-clause-encrypted c = λ ks made right stays.
     let e = c.args.edits in
-    let front = lead e.source.now in
-    subst (EncryptsAt ks) (sym (c.in_ok-lines.ensures.edited stays)) (λ k off.
-    c.in_ok-entries.ensures.fresh k ∙ ap (λ l. fresh_in front l k) c.deref.ensures.value
-    ∙ none_fresh front e.changes.items k (right.changes.same k ∙ off))
+    let charstrings = c.in_ok-lines.lines.charstrings in
+    encrypts_same (changed_keys e.changes.items) ks charstrings right.changes.same
+    (subst (λ l. EncryptsAt (changed_keys l) charstrings) c.deref.ensures.value (c.in_ok-lines.ensures.encrypted stays))
 
 pub returns-in-Ok-clause-held : goal.returns-in-Ok-clause-held
 returns-in-Ok-clause-held c =

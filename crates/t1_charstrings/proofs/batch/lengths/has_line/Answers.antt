@@ -1,4 +1,0 @@
-use Rattle.t1_charstrings.proofs.batch.lengths.has_line.Goals as goal
-
-pub returns-in-Glyph : goal.returns-in-Glyph
-returns-in-Glyph c = rw c.in-Glyph.is c.contains_key-in-Glyph.ensures
