@@ -1,5 +1,5 @@
 -- The digits at the front of a text, and the word that they begin.
-use Rattle.std.proofs.Common.{codes, ◌≡◌, ℕ, ◌+◌, ◌<◌, ◌≤◌, Bool, true, false, not, ◌&&◌, ◌==◌, nat_lt, List, [], ◌∷◌, length, zero, suc, Option, None, Some, MatchOption, Result, Ok, Err, min, subst, length-take-le, ◌-◌, ◌^◌, take, drop, length-take, refl, sym, ap, ◌∙◌, inl, inr, arith}
+use Rattle.std.proofs.Common.{codes, ◌≡◌, ℕ, ◌+◌, ◌<◌, ◌≤◌, Bool, true, false, not, ◌&&◌, ◌==◌, nat_lt, List, [], ◌∷◌, ◌++◌, length, zero, suc, Option, None, Some, MatchOption, Result, Ok, Err, min, subst, length-take-le, ◌-◌, ◌^◌, take, drop, length-take, refl, sym, ap, ◌∙◌, inl, inr, arith}
 use Rattle.std.specs.List.{list_all, prefix_len, position_or_len}
 use Rattle.std.specs.Char.{is_ascii_digit}
 use Rattle.std.specs.Str.Parse.{starts_with_minus}
@@ -9,7 +9,10 @@ use Rattle.std.specs.Map.{lookup}
 use Rattle.std.specs.Borrow.{Bor}
 use Rattle.std.proofs.lemmas.Slice.Eq.{bytes_eq-Decides}
 use Rattle.std.proofs.lemmas.List.Sums.{prefix_len-le-length}
+use Rattle.std.proofs.Math.ListN.{get_or}
 use Rattle.std.proofs.Math.Numerals.{one-add}
+use Rattle.std.proofs.Math.Seq.{drop-cons}
+use Rattle.std.proofs.lemmas.List.{drop-drop, take-append-drop}
 use Rattle.t1_frac.proofs.WordLaws.{front_stays, no_word_at, word_at, word_shortens}
 use Rattle.t1_frac.specs.Words.{is_blank, trimmed_front, word_goes_on, words}
 use Rattle.t1_code.specs.Words.{in_32_bits, number_command, number_of_word, operator_named, operator_words, or_unknown, command_of_word, command_then, commands_of_words}
@@ -340,3 +343,17 @@ pub past_array : (n : ℕ) (word text front end : List ℕ) (same : Bool) (past 
     → MatchOption past (bytes_eq (first_word text) word ≡ false) (λ after. (bytes_eq (first_word text) word ≡ true) × (after.now ≡ drop 1 (drop (position_or_len is_blank text) text)))
 past_array n word text front end same past len all f e is on =
     past_word word text end past all (ap (λ l. bytes_eq l word) (ap (λ k. take k text) len ∙ sym f) ∙ sym is ∙ on) (e ∙ ap (λ k. drop k text) (sym len))
+
+-- two texts of five to nine bytes are the same where their first four, their fifth and their last four are
+pub ends_join : (one other : List ℕ) → length one ≡ length other → 5 ≤ length one → length one ≤ 9 → take 4 one ≡ take 4 other → get_or one 4 0 ≡ get_or other 4 0
+    → drop (length one - 4) one ≡ drop (length other - 4) other → one ≡ other
+ends_join one other same long short front fifth back =
+    let n = length one in
+    let k = 9 - n in
+    let five : 5 ≡ (n - 4) + k = omega (arith, long, short) in
+    let past : (l : List ℕ) → drop 5 l ≡ drop k (drop (n - 4) l) = λ l. ap (λ i. drop i l) five ∙ sym (drop-drop k (n - 4) l) in
+    let ends : drop (n - 4) one ≡ drop (n - 4) other = back ∙ ap (λ m. drop (m - 4) other) (sym same) in
+    let rest : drop 5 one ≡ drop 5 other = past one ∙ ap (drop k) ends ∙ sym (past other) in
+    let after : drop 4 one ≡ drop 4 other =
+    drop-cons one 4 0 (omega (arith, long)) ∙ ap (λ x. x ∷ drop 5 one) fifth ∙ ap (λ l. get_or other 4 0 ∷ l) rest ∙ sym (drop-cons other 4 0 (omega (arith, long, same))) in
+    sym (take-append-drop 4 one) ∙ ap (λ l. l ++ drop 4 one) front ∙ ap (λ l. take 4 other ++ l) after ∙ take-append-drop 4 other

@@ -19,7 +19,7 @@ use crate::charstring::{CHARSTRING_KEY, Cipher, push_command};
 use crate::command::{Command, after_word, frequent, past_end};
 use std::alloc::{AllocError, Global};
 use t1_frac::{
-    Code, Place, Refusal, Words, digits_of_word, leading_number, leading_short_number, next_word,
+    Code, Refusal, Words, digits_of_word, leading_number, leading_short_number, next_word,
     skip_blanks,
 };
 
@@ -288,7 +288,7 @@ pub fn compiled_subr(alloc: Global, number: u16, words: &Words) -> Result<Body, 
     ensures { Gives (λ body. body) result (reported_at (places.Subr number) (commands words.now)) }
 {
     match compile(alloc, words) {
-        Err(refusal) => Err(refusal.at(Place::Subr(number))),
+        Err(refusal) => Err(refusal.at_subr(number)),
         compiled => compiled,
     }
 }

@@ -21,7 +21,7 @@ use Rattle.t1_disassemble.specs.Outcome.{font_fault_at, font_reported_at}
 use Rattle.t1_disassemble.specs.PiecesOnto.{private_onto}
 use Rattle.t1_disassemble.specs.SegmentsRead.{FontParts}
 use Rattle.t1_disassemble.specs.Settings.{reading_operator, leading_bytes}
-use Rattle.t1_disassemble.specs.SourceOnto.{plain_onto, source_onto, binary_onto, counted_private, segmented_source, flat_source}
+use Rattle.t1_disassemble.specs.SourceOnto.{plain_onto, source_onto, binary_onto, counted_private, segmented_source, flat_source, counted_onto, flat_onto}
 use Rattle.t1_disassemble.proofs.WholeLaws.{unchanged, tail_again}
 
 -- ---- where the encrypted bytes begin
@@ -101,21 +101,21 @@ then_then (Err fault) f g = refl
 abbrev counted_tail : (ℕ → List ℕ) → List ℕ × ℕ → Result (List ℕ) FontFault
 counted_tail tail found = Ok (found.0 ++ joined (tail_of (lines (tail found.1))))
 
-counted_then : (plain : List ℕ) (tail : ℕ → List ℕ)
-    → (font_reported_at Nowhere (leading_bytes (lines plain)) >>= λ lead. private_onto (reading_operator (lines plain)) lead [] false plain >>= λ private. with_tail [] (tail (length plain - length private.1)) private)
-    ≡ (counted_private plain >>= counted_tail tail)
-counted_then plain tail =
-    let read = λ (lead : ℕ). private_onto (reading_operator (lines plain)) lead [] false plain in
-    let single = λ (private : List ℕ × List ℕ). single_sections private.0 >>= λ single. Ok (private.0, length plain - length private.1) in
+counted_on : (text plain : List ℕ) (tail : ℕ → List ℕ)
+    → (font_reported_at Nowhere (leading_bytes (lines plain)) >>= λ lead. private_onto (reading_operator (lines plain)) lead text false plain >>= λ private. with_tail text (tail (length plain - length private.1)) private)
+    ≡ (counted_onto text plain >>= counted_tail tail)
+counted_on text plain tail =
+    let read = λ (lead : ℕ). private_onto (reading_operator (lines plain)) lead text false plain in
+    let single = λ (private : List ℕ × List ℕ). single_sections (drop (length text) private.0) >>= λ single. Ok (private.0, length plain - length private.1) in
     sym (then_then (font_reported_at Nowhere (leading_bytes (lines plain))) (λ lead. read lead >>= single) (counted_tail tail)
     ∙ same_after (font_reported_at Nowhere (leading_bytes (lines plain))) (λ lead. (read lead >>= single) >>= counted_tail tail)
-    (λ lead. read lead >>= λ private. with_tail [] (tail (length plain - length private.1)) private)
+    (λ lead. read lead >>= λ private. with_tail text (tail (length plain - length private.1)) private)
     (λ lead. then_then (read lead) single (counted_tail tail)
-    ∙ same_after (read lead) (λ private. single private >>= counted_tail tail) (λ private. with_tail [] (tail (length plain - length private.1)) private)
-    (λ private. then_then (single_sections private.0) (λ single. Ok (private.0, length plain - length private.1)) (counted_tail tail))))
+    ∙ same_after (read lead) (λ private. single private >>= counted_tail tail) (λ private. with_tail text (tail (length plain - length private.1)) private)
+    (λ private. then_then (single_sections (drop (length text) private.0)) (λ single. Ok (private.0, length plain - length private.1)) (counted_tail tail))))
 
 segmented_same : (tail plain : List ℕ) → binary_onto [] tail plain ≡ segmented_source tail plain
-segmented_same tail plain = counted_then plain (λ count. tail)
+segmented_same tail plain = counted_on [] plain (λ count. tail)
 
 -- in segments
 pub packed_segments : (clear segments tail coded : List ℕ) → is_hexadecimal coded ≡ false → 0 < length segments
@@ -126,22 +126,25 @@ packed_segments clear segments tail coded off some = binary_same [] clear segmen
 behind_binary : (coded : List ℕ) (count : ℕ) → is_hexadecimal coded ≡ false → after_coded coded count ≡ drop count coded
 behind_binary coded count off = rw off refl
 
-pub flat_same : (clear tail coded : List ℕ) → is_hexadecimal coded ≡ false → source_onto [] (record { clear = clear; coded = []; tail = tail }) coded ≡ flat_source coded
-flat_same clear tail coded off =
+pub flat_on : (text clear tail coded : List ℕ) → is_hexadecimal coded ≡ false → source_onto text (record { clear = clear; coded = []; tail = tail }) coded ≡ flat_onto text coded
+flat_on text clear tail coded off =
     let parts : FontParts = record { clear = clear; coded = []; tail = tail } in
     let plain = decrypted_private coded in
-    let read = λ (lead : ℕ). private_onto (reading_operator (lines plain)) lead [] false plain in
+    let read = λ (lead : ℕ). private_onto (reading_operator (lines plain)) lead text false plain in
     let left = λ (private : List ℕ × List ℕ). tail_after parts coded (4 + (length plain - length private.1)) in
     let behind = λ (private : List ℕ × List ℕ). drop (4 + (length plain - length private.1)) coded in
-    ap (λ (b : List ℕ). plain_onto [] parts coded (decrypted_private b)) (unchanged coded off)
+    ap (λ (b : List ℕ). plain_onto text parts coded (decrypted_private b)) (unchanged coded off)
     ∙ same_after (font_reported_at Nowhere (leading_bytes (lines plain)))
-    (λ lead. with_digits (coded_place parts coded) coded (read lead) >>= λ private. with_tail [] (left private) private)
-    (λ lead. read lead >>= λ private. with_tail [] (behind private) private)
+    (λ lead. with_digits (coded_place parts coded) coded (read lead) >>= λ private. with_tail text (left private) private)
+    (λ lead. read lead >>= λ private. with_tail text (behind private) private)
     (λ lead.
-    ap (λ (r : Result (List ℕ × List ℕ) FontFault). r >>= λ private. with_tail [] (left private) private) (digits_none (coded_place parts coded) coded (read lead) off)
-    ∙ same_after (read lead) (λ private. with_tail [] (left private) private) (λ private. with_tail [] (behind private) private)
-    (λ private. ap (λ (t : List ℕ). with_tail [] t private) (behind_binary coded (4 + (length plain - length private.1)) off)))
-    ∙ counted_then plain (λ count. drop (4 + count) coded)
+    ap (λ (r : Result (List ℕ × List ℕ) FontFault). r >>= λ private. with_tail text (left private) private) (digits_none (coded_place parts coded) coded (read lead) off)
+    ∙ same_after (read lead) (λ private. with_tail text (left private) private) (λ private. with_tail text (behind private) private)
+    (λ private. ap (λ (t : List ℕ). with_tail text t private) (behind_binary coded (4 + (length plain - length private.1)) off)))
+    ∙ counted_on text plain (λ count. drop (4 + count) coded)
+
+pub flat_same : (clear tail coded : List ℕ) → is_hexadecimal coded ≡ false → source_onto [] (record { clear = clear; coded = []; tail = tail }) coded ≡ flat_source coded
+flat_same clear tail coded off = flat_on [] clear tail coded off
 
 -- ---- a beginning in segments of text, put in front of the binary segments
 

@@ -26,7 +26,7 @@ word_put v w text rest is_open is_number read number = ap (after_text text is_op
 abbrev said : List ℕ → ℤ → Result (List ℕ × List ℕ) FontCode
 said rest n = Ok (signed_decimal n, rest)
 
-number_read : (v : ℕ) (n : ℤ) (rest : List ℕ) → 32 ≤ v → v < 247 → n ≡ pos v -ℤ pos 139 → word_at v rest ≡ Ok (signed_decimal n, rest)
+pub number_read : (v : ℕ) (n : ℤ) (rest : List ℕ) → 32 ≤ v → v < 247 → n ≡ pos v -ℤ pos 139 → word_at v rest ≡ Ok (signed_decimal n, rest)
 unfolding word_at
 number_read v n rest low high e = rw (le-ltb v 32 low, lt-ltb v 247 high) (ap (said rest) (sym e))
 
@@ -38,7 +38,7 @@ number_known v n low high e fits text rest is_open =
     word_put v (signed_decimal n) text rest is_open true (number_read v n rest low high e) (number_is_word n fits)
     ∙ ap (front text true rest) (append-nil (text ++ (if is_open then 32 else 9) ∷ signed_decimal n))
 
-command_read : (v : ℕ) (w rest : List ℕ) → v < 32 → (v == 12) ≡ false → lookup (nat_eq v) one_byte_words ≡ Some w → word_at v rest ≡ Ok (w, rest)
+pub command_read : (v : ℕ) (w rest : List ℕ) → v < 32 → (v == 12) ≡ false → lookup (nat_eq v) one_byte_words ≡ Some w → word_at v rest ≡ Ok (w, rest)
 unfolding word_at
 command_read v w rest small alone found = rw (lt-ltb v 32 small, alone) (ap (found_word rest) found)
 

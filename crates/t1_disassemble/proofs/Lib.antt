@@ -2,6 +2,8 @@ pub mod AlikeLaws
 pub mod BinaryLaws
 pub mod BorderLaws
 pub mod ClearLaws
+pub mod CodedLaws
+pub mod CommandLaws
 pub mod CutPieces
 pub mod CutPlaces
 pub mod Deciphering
@@ -17,6 +19,8 @@ pub mod InPlaceSources
 pub mod ItemLaws
 pub mod KindLaws
 pub mod KnownWordLaws
+pub mod LastLaws
+pub mod NumberWords
 pub mod Openings
 pub mod PackedLaws
 pub mod PackedWords

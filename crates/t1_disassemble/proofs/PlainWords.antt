@@ -123,10 +123,10 @@ plain_said ws cs h = words_said ws cs (few_words ws cs h).1
 
 -- ---- the lines of words
 
-printed_number : (is_open : Bool) (w : List ℕ) (ws : List (List ℕ)) → is_number_word w ≡ true → printed_words is_open (w ∷ ws) ≡ (if is_open then 32 else 9) ∷ (w ++ printed_words true ws)
+pub printed_number : (is_open : Bool) (w : List ℕ) (ws : List (List ℕ)) → is_number_word w ≡ true → printed_words is_open (w ∷ ws) ≡ (if is_open then 32 else 9) ∷ (w ++ printed_words true ws)
 printed_number is_open w ws t = rw t refl
 
-printed_other : (is_open : Bool) (w : List ℕ) (ws : List (List ℕ)) → is_number_word w ≡ false → printed_words is_open (w ∷ ws) ≡ (if is_open then 32 else 9) ∷ (w ++ 10 ∷ printed_words false ws)
+pub printed_other : (is_open : Bool) (w : List ℕ) (ws : List (List ℕ)) → is_number_word w ≡ false → printed_words is_open (w ∷ ws) ≡ (if is_open then 32 else 9) ∷ (w ++ 10 ∷ printed_words false ws)
 printed_other is_open w ws f = rw f refl
 
 printed_left : (is_open : Bool) (ws : List (List ℕ)) → printed_words is_open ws ≡ left is_open ws

@@ -167,3 +167,10 @@ pub known_more : (text old new left rest : List ℕ) (is_open opened : Bool) (v 
 known_more text old new left rest is_open opened v e h =
     sym (ap (λ l. words_onto (text ++ old) is_open (words_of l)) e ∙ push_more (text ++ old) is_open v rest
     ∙ ap (λ (r : Result (List ℕ × Bool × List ℕ) FontCode). r >>= λ x. words_onto x.0 x.1 (words_of x.2)) (behind_ok text old is_open v rest (text ++ old) (new, opened, rest) h refl))
+
+-- the same where more bytes belong to the word
+pub number_more : (text old new left rest after : List ℕ) (is_open : Bool) (v : ℕ) → left ≡ v ∷ rest → put_first old is_open v rest ≡ Ok (new, true, after)
+    → words_onto (text ++ new) true (words_of after) ≡ words_onto (text ++ old) is_open (words_of left)
+number_more text old new left rest after is_open v e h =
+    sym (ap (λ l. words_onto (text ++ old) is_open (words_of l)) e ∙ push_more (text ++ old) is_open v rest
+    ∙ ap (λ (r : Result (List ℕ × Bool × List ℕ) FontCode). r >>= λ x. words_onto x.0 x.1 (words_of x.2)) (behind_ok text old is_open v rest (text ++ old) (new, true, after) h refl))

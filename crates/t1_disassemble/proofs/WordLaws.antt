@@ -49,11 +49,11 @@ unfolding word_at
 word_again a (Num n) x h = number_again a n x h
 word_again a command x h = rw h refl
 
-one_word : (code w after : List ℕ) → front_word code ≡ Ok (w, after) → words_of code ≡ (words_of after >>= λ words. Ok (w ∷ words))
+pub one_word : (code w after : List ℕ) → front_word code ≡ Ok (w, after) → words_of code ≡ (words_of after >>= λ words. Ok (w ∷ words))
 one_word [] w after e = absurd (cc)
 one_word (v ∷ rest) w after e = words_more v rest ∙ ap then_words e
 
-no_words : words_of [] ≡ Ok []
+pub no_words : words_of [] ≡ Ok []
 unfolding words_of
 no_words = refl
 
@@ -78,7 +78,7 @@ pub number_said : (n : ℤ) → FitsSigned w32 n → command_of_word (signed_dec
 unfolding command_of_word number_of_word
 number_said n fits = rw (number_is_word n fits, written_again n fits, fits_again n fits) refl
 
-command_said : (c : Command) → Fits32Bits c → command_of_word (command_word c) ≡ Ok c
+pub command_said : (c : Command) → Fits32Bits c → command_of_word (command_word c) ≡ Ok c
 unfolding command_of_word operator_named operator_words is_number_word
 command_said (Num n) fits = number_said n fits
 command_said c fits = refl

@@ -1,4 +1,5 @@
 pub mod ClearPart
+pub mod CodedTexts
 pub mod CommandWords
 pub mod CutDigits
 pub mod CutWords
@@ -11,6 +12,8 @@ pub mod FilePlaces
 pub mod Front
 pub mod InPlace
 pub mod Kinds
+pub mod KnownCommands
+pub mod KnownNumbers
 pub mod KnownWords
 pub mod Laws
 pub mod Layouts

@@ -34,6 +34,18 @@ binary_onto text tail plain =
     single_sections (drop (length text) private.0) >>= λ single.
     Ok (private.0 ++ joined (tail_of (lines tail)))
 
+-- word: the lines of a private text, after a text, and how many of its bytes hold them
+abbrev pub counted_onto : List ℕ → List ℕ → Result (List ℕ × ℕ) FontFault
+counted_onto text plain =
+    font_reported_at Nowhere (leading_bytes (lines plain)) >>= λ lead.
+    private_onto (reading_operator (lines plain)) lead text false plain >>= λ private.
+    single_sections (drop (length text) private.0) >>= λ single.
+    Ok (private.0, length plain - length private.1)
+
+-- word: these, and the lines of the tail, of an encrypted part in binary whose file has no segments
+abbrev pub flat_onto : List ℕ → List ℕ → Result (List ℕ) FontFault
+flat_onto text coded = counted_onto text (decrypted_private coded) >>= λ found. Ok (found.0 ++ joined (tail_of (lines (drop (4 + found.1) coded))))
+
 -- word: the lines of a private text, and how many of its bytes hold them
 abbrev pub counted_private : List ℕ → Result (List ℕ × ℕ) FontFault
 counted_private plain =

@@ -9,16 +9,16 @@ ghost use Rattle.t1_disassemble.specs.Outcome.{GivesFont, font_reported_at};
 ghost use Rattle.t1_disassemble.specs.Words.{one_byte_words, two_byte_words, escaped_at};
 ghost use Rattle.t1_disassemble.specs.Words.{operator_at, positive_at, negative_at, long_at};
 ghost use Rattle.t1_disassemble.specs.Words.{number_at, printed_words, words_of};
-ghost use Rattle.t1_disassemble.specs.Words.{words_of_encrypted};
 ghost use Rattle.t1_disassemble.specs.SoundWords.{code_lines};
 ghost use Rattle.t1_disassemble.specs.Waiting.{due, left_of};
 ghost use Rattle.t1_disassemble.specs.WordsOnto.{put_first, with_word, words_onto};
 ghost use Rattle.t1_code.specs.Writing.{Puts};
 ghost use Rattle.t1_disassemble.specs.declared.fault.FontPlace.TheVariants.{Nowhere};
 
-use crate::cipher::decipher_charstring;
 use crate::fault::{FontCode, FontRefusal};
-use crate::known_word::{KnownWord, known_word};
+use crate::known::Known;
+use crate::known_number::put_known_number;
+use crate::known_word::known_word;
 use crate::waiting::{MOST_OF_A_WORD, ROOM, make_room, put_blank, put_byte, put_bytes, put_number};
 use std::alloc::AllocError;
 use std::io::{self, Write};
@@ -160,7 +160,7 @@ fn long(rest: &[u8]) -> Result<(i32, &[u8]), FontCode>
 }
 
 /// The number that begins with this byte, and the bytes after it.
-fn number(first: u8, rest: &[u8]) -> Result<(i32, &[u8]), FontCode>
+pub(crate) fn number(first: u8, rest: &[u8]) -> Result<(i32, &[u8]), FontCode>
     requires { 32 ≤ first }
     ensures value { MatchResult
         result
@@ -254,7 +254,7 @@ fn put_any<'a>(
 /// it.
 #[inline(always)]
 fn put_word<'a>(
-    known: &[KnownWord],
+    known: &Known,
     bytes: &mut [u8; ROOM],
     len: usize,
     is_open: bool,
@@ -272,7 +272,7 @@ fn put_word<'a>(
     ensures kept { OnErr result (bytes.new ≡ bytes.old) }
     ensures size { length bytes.new ≡ 256 }
 {
-    if let Some(word) = known_word(known, first) {
+    if let Some(word) = known_word(&known.words, first) {
         let (end, opened) = word.put(bytes, len, is_open);
         return Ok((end, opened, rest));
     }
@@ -283,7 +283,7 @@ fn put_word<'a>(
 #[inline(always)]
 #[tactic(auto, using(crate::proofs::Reading::behind_ok, crate::proofs::Reading::behind_err))]
 fn push_first<'a>(
-    known: &[KnownWord],
+    known: &Known,
     text: &mut Vec<u8>,
     bytes: &mut [u8; ROOM],
     len: usize,
@@ -310,7 +310,7 @@ fn push_first<'a>(
 /// word's line is still open, and the bytes that are left.
 #[inline(always)]
 fn put_known<'a>(
-    known: &[KnownWord],
+    known: &Known,
     bytes: &mut [u8; ROOM],
     len: usize,
     is_open: bool,
@@ -335,11 +335,17 @@ fn put_known<'a>(
         let Some((first, after)) = rest.split_first() else {
             return (end, opened, rest);
         };
-        let Some(word) = known_word(known, *first) else {
+        if let Some(word) = known_word(&known.words, *first) {
+            (end, opened) = word.put_on(bytes, end);
+            rest = after;
+            continue;
+        }
+        let Some((put, left)) = put_known_number(&known.numbers, bytes, end, *first, after) else {
             return (end, opened, rest);
         };
-        (end, opened) = word.put_on(bytes, end);
-        rest = after;
+        end = put;
+        opened = true;
+        rest = left;
     }
     (end, opened, rest)
 }
@@ -347,11 +353,7 @@ fn put_known<'a>(
 /// Adds the lines of a charstring's words. At a fault and where memory runs out some of them may
 /// stand there.
 #[tactic(auto, using(crate::proofs::Reading::push_more, crate::proofs::Reading::push_none))]
-pub(crate) fn push_words(
-    known: &[KnownWord],
-    text: &mut Vec<u8>,
-    code: &[u8],
-) -> Result<(), FontRefusal>
+pub(crate) fn push_words(known: &Known, text: &mut Vec<u8>, code: &[u8]) -> Result<(), FontRefusal>
     ensures { GivesFont
         (λ _. text.new.items)
         result
@@ -368,30 +370,6 @@ pub(crate) fn push_words(
     text.extend_from_slice(bytes.split_at(len).0)?;
     end_line(text, is_open)?;
     Ok(())
-}
-
-/// Adds the lines of an encrypted charstring's words to a text; the buffer's memory serves all
-/// charstrings of a font. At a fault and where memory runs out some of the lines may stand there.
-#[tactic(auto, unfolding(crate::specs::Words::words_of_encrypted))]
-pub(crate) fn push_encrypted(
-    known: &[KnownWord],
-    text: &mut Vec<u8>,
-    buffer: &mut Vec<u8>,
-    lead: u8,
-    bytes: &[u8],
-) -> Result<(), FontRefusal>
-    ensures { GivesFont
-        (λ _. text.new.items)
-        result
-        (font_reported_at Nowhere (words_onto text.old.items false
-        (words_of_encrypted lead bytes.now))) }
-{
-    let lead = usize::from(lead);
-    if bytes.len() < lead {
-        return Err(FontRefusal::from(FontCode::D6));
-    }
-    decipher_charstring(buffer, bytes)?;
-    push_words(known, text, buffer.split_at(lead).1)
 }
 
 /// Passes on the words that wait where there is no room for one more, and answers how many bytes
@@ -427,7 +405,7 @@ fn put_last<W: Write>(
 
 /// Passes on the lines of the words that some bytes begin with.
 pub(crate) fn put_words<W: Write>(
-    known: &[KnownWord],
+    known: &Known,
     outlet: &mut Outlet<W>,
     code: &[u8],
 ) -> io::Result<()>

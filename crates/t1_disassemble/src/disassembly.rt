@@ -1,6 +1,6 @@
 //! The source of a font's file.
 ghost use Rattle.std.specs.Prelude.{◌≡◌, ◌+◌, ◌-◌, ◌<◌, ◌≤◌, ◌^◌, [], ◌++◌, true, false, drop};
-ghost use Rattle.std.specs.Prelude.{length, IfOk, OnOk};
+ghost use Rattle.std.specs.Prelude.{length, IfOk, OnOk, List, ℕ};
 ghost use Rattle.t1_text.specs.Lines.{begins_with, lines, joined};
 ghost use Rattle.t1_code.specs.Pfb.{marker};
 ghost use Rattle.t1_parts.specs.Parts.{tail_of};
@@ -15,13 +15,16 @@ ghost use Rattle.t1_disassemble.specs.Lent.{lent_parts};
 ghost use Rattle.t1_disassemble.specs.Outcome.{GivesFont};
 ghost use Rattle.t1_disassemble.specs.PiecesOnto.{private_onto};
 ghost use Rattle.t1_disassemble.specs.SourceOnto.{plain_onto, source_onto, binary_onto};
+ghost use Rattle.t1_disassemble.specs.SourceOnto.{counted_onto, flat_onto};
 
-use crate::cipher::decipher_private;
+use crate::cipher::{decipher_private, encipher_private};
+use crate::coded_text::CodedText;
 use crate::digits::{after_digits, digits_len, is_hexadecimal, push_bytes};
 use crate::fault::{FontCode, FontFault, FontPlace, FontRefusal};
-use crate::front::{after_eexec, is_space, past, past_line, past_spaces};
+use crate::front::{after_eexec, is_space, past, past_line, past_spaces, space_len};
 use crate::kinds::{check_kind, check_sections};
-use crate::lines::Lines;
+use crate::lines::{Lines, add_lines};
+use crate::packing::clear_len;
 use crate::places::{byte_place, fault_byte, fault_moved, front_place};
 use crate::private::{Settings, push_private};
 use crate::segments::{
@@ -30,8 +33,11 @@ use crate::segments::{
 };
 use crate::settings::{leading_bytes, reading_operator};
 use std::alloc::{AllocError, Global};
-use t1_parts::{push_line, push_lines, tail_of};
+use t1_parts::{push_line, tail_of};
 use t1_text::first_line;
+
+/// How many bytes a tail mostly has at most: 512 zeros in lines, and a few words.
+const TAIL: usize = 2_048;
 
 /// How many bytes stand in front of the private text.
 pub(crate) const EEXEC_LEAD: usize = 4;
@@ -50,11 +56,11 @@ pub(crate) fn push_lines_of(text: &mut Vec<u8>, bytes: &[u8]) -> Result<(), Allo
 }
 
 /// Adds the lines of a tail.
-fn push_tail(alloc: Global, text: &mut Vec<u8>, tail: &[u8]) -> Result<(), AllocError>
-    ensures { OnOk result (text.new.items ≡ text.old.items ++ joined (tail_of (lines tail.now))) }
+fn push_tail(alloc: Global, text: &mut CodedText, tail: &[u8]) -> Result<(), AllocError>
+    ensures { OnOk result (text.new ≡ text.old ++ joined (tail_of (lines tail.now))) }
 {
     let lines = tail_of(alloc, tail)?;
-    push_lines(text, &lines)
+    add_lines(text, &lines)
 }
 
 /// The encrypted bytes, of their digits where they are in hexadecimal.
@@ -177,16 +183,16 @@ pub(crate) fn coded_place(parts: &LentParts, coded: &[u8]) -> usize
 /// where memory runs out some of them may stand there.
 fn push_plain(
     alloc: Global,
-    text: &mut Vec<u8>,
+    text: &mut CodedText,
     parts: &LentParts,
     coded: &[u8],
     plain: &[u8],
 ) -> Result<(), FontRefusal>
     requires { length plain.now < 2 ^ 63 - 4 }
     ensures { GivesFont
-        (λ _. text.new.items)
+        (λ _. text.new)
         result
-        (plain_onto text.old.items (lent_parts parts.now) coded.now plain.now) }
+        (plain_onto text.old (lent_parts parts.now) coded.now plain.now) }
 {
     let lead = leading_bytes(plain)?;
     let settings = Settings {
@@ -194,9 +200,9 @@ fn push_plain(
         lead,
     };
     let place = coded_place(parts, coded);
-    let front = text.len();
+    let front = text.as_bytes().len();
     let rest = push_checked(alloc, text, &settings, place, coded, plain)?;
-    check_sections(past(text, front))?;
+    check_sections(past(text.as_bytes(), front))?;
     let count = EEXEC_LEAD + (plain.len() - rest.len());
     push_tail(alloc, text, tail_after(parts, coded, count))?;
     Ok(())
@@ -212,39 +218,58 @@ pub(crate) fn past_lead(bytes: &[u8]) -> &[u8]
 /// The same, of the encrypted part alone.
 fn push_source(
     alloc: Global,
-    text: &mut Vec<u8>,
+    text: &mut CodedText,
     parts: &LentParts,
     coded: &[u8],
 ) -> Result<(), FontRefusal>
     ensures { GivesFont
-        (λ _. text.new.items)
+        (λ _. text.new)
         result
-        (source_onto text.old.items (lent_parts parts.now) coded.now) }
+        (source_onto text.old (lent_parts parts.now) coded.now) }
 {
     let bytes = plain_bytes(alloc, coded)?;
     push_plain(alloc, text, parts, coded, past_lead(&bytes))
 }
 
-/// Adds the lines of a private text whose file has segments, and those of the tail.
-fn push_segmented(
-    alloc: Global,
-    text: &mut Vec<u8>,
-    plain: &[u8],
-    tail: &[u8],
-) -> Result<(), FontRefusal>
-    ensures { GivesFont
-        (λ _. text.new.items)
+/// Adds the lines of a private text, and answers how many of its bytes hold them.
+fn push_counted(alloc: Global, text: &mut CodedText, plain: &[u8]) -> Result<usize, FontRefusal>
+    ensures value { GivesFont
+        (λ count. (text.new, count))
         result
-        (binary_onto text.old.items tail.now plain.now) }
+        (counted_onto text.old plain.now) }
+    ensures within { IfOk result (λ count. count ≤ length plain.now) }
 {
     let lead = leading_bytes(plain)?;
     let settings = Settings {
         operator: reading_operator(plain),
         lead,
     };
-    let front = text.len();
+    let front = text.as_bytes().len();
+    let rest = push_private(alloc, text, &settings, plain)?;
+    check_sections(past(text.as_bytes(), front))?;
+    Ok(plain.len() - rest.len())
+}
+
+/// Adds the lines of a private text whose file has segments, and those of the tail.
+fn push_segmented(
+    alloc: Global,
+    text: &mut CodedText,
+    plain: &[u8],
+    tail: &[u8],
+) -> Result<(), FontRefusal>
+    ensures { GivesFont
+        (λ _. text.new)
+        result
+        (binary_onto text.old tail.now plain.now) }
+{
+    let lead = leading_bytes(plain)?;
+    let settings = Settings {
+        operator: reading_operator(plain),
+        lead,
+    };
+    let front = text.as_bytes().len();
     push_private(alloc, text, &settings, plain)?;
-    check_sections(past(text, front))?;
+    check_sections(past(text.as_bytes(), front))?;
     push_tail(alloc, text, tail)?;
     Ok(())
 }
@@ -253,14 +278,14 @@ fn push_segmented(
 /// The plain bytes take the place of the encrypted ones.
 fn push_binary(
     alloc: Global,
-    text: &mut Vec<u8>,
+    text: &mut CodedText,
     coded: &mut [u8],
     tail: &[u8],
 ) -> Result<(), FontRefusal>
     ensures { GivesFont
-        (λ _. text.new.items)
+        (λ _. text.new)
         result
-        (binary_onto text.old.items tail.now (decrypted_private coded.old)) }
+        (binary_onto text.old tail.now (decrypted_private coded.old)) }
 {
     decipher_private(coded);
     push_segmented(alloc, text, past_lead(coded), tail)
@@ -299,15 +324,15 @@ fn is_binary(after: &[u8], coded: &[u8]) -> bool
 /// and those of the tail.
 fn push_on_line(
     alloc: Global,
-    text: &mut Vec<u8>,
+    text: &mut CodedText,
     clear: &[u8],
     after: &[u8],
     tail: &[u8],
 ) -> Result<(), FontRefusal>
     ensures { GivesFont
-        (λ _. text.new.items)
+        (λ _. text.new)
         result
-        (source_onto text.old.items
+        (source_onto text.old
         (record { clear = clear.now; coded = []; tail = tail.now })
         (past_spaces after.now)) }
 {
@@ -323,16 +348,16 @@ fn push_on_line(
 /// the tail.
 fn push_joined(
     alloc: Global,
-    text: &mut Vec<u8>,
+    text: &mut CodedText,
     clear: &[u8],
     after: &[u8],
     coded: &[u8],
     tail: &[u8],
 ) -> Result<(), FontRefusal>
     ensures { GivesFont
-        (λ _. text.new.items)
+        (λ _. text.new)
         result
-        (source_onto text.old.items
+        (source_onto text.old
         (record { clear = clear.now; coded = coded.now; tail = tail.now })
         (past_spaces (after.now ++ coded.now))) }
 {
@@ -346,16 +371,16 @@ fn push_joined(
 #[tactic(auto, using(crate::proofs::BinaryLaws::coded_on_line))]
 fn push_coded(
     alloc: Global,
-    text: &mut Vec<u8>,
+    text: &mut CodedText,
     clear: &[u8],
     after: &[u8],
     coded: &mut [u8],
     tail: &[u8],
 ) -> Result<(), FontRefusal>
     ensures { GivesFont
-        (λ _. text.new.items)
+        (λ _. text.new)
         result
-        (source_onto text.old.items
+        (source_onto text.old
         (record { clear = clear.now; coded = coded.old; tail = tail.now })
         (past_spaces (after.now ++ coded.old))) }
 {
@@ -375,9 +400,9 @@ fn source_of_parts(
     clear: &[u8],
     coded: &mut [u8],
     tail: &[u8],
-) -> Result<Vec<u8>, FontRefusal>
+) -> Result<CodedText, FontRefusal>
     ensures { GivesFont
-        (λ text. text.items)
+        (λ text. text)
         result
         (source_of (record { clear = clear.now; coded = coded.old; tail = tail.now })
         (after_eexec clear.now)) }
@@ -388,17 +413,18 @@ fn source_of_parts(
     };
     let front = clear.split_at(clear.len() - after.len()).0;
     check_kind(front)?;
-    let mut text = Vec::new(alloc);
-    push_lines_of(&mut text, front)?;
+    let mut lines = Vec::new(alloc);
+    push_lines_of(&mut lines, front)?;
+    let mut text = CodedText::after(alloc, lines);
     push_coded(alloc, &mut text, clear, after, coded, tail)?;
     Ok(text)
 }
 
 /// The source of a file with segments.
 #[tactic(auto, unfolding(crate::specs::Disassembly::disassembled, crate::specs::SegmentsRead::font_parts))]
-fn source_of_segments(alloc: Global, file: &[u8]) -> Result<Vec<u8>, FontRefusal>
+fn source_of_segments(alloc: Global, file: &[u8]) -> Result<CodedText, FontRefusal>
     requires { begins_with marker file.now ≡ true }
-    ensures { GivesFont (λ text. text.items) result (disassembled file.now) }
+    ensures { GivesFont (λ text. text) result (disassembled file.now) }
 {
     let JoinedParts { clear, coded, tail } = segmented_parts(alloc, file)?;
     let mut coded = coded;
@@ -408,12 +434,105 @@ fn source_of_segments(alloc: Global, file: &[u8]) -> Result<Vec<u8>, FontRefusal
     }
 }
 
-/// The source of a font's file, in the form that `assemble` reads: of a PFB file, whatever its
-/// segments, of a PFA file, or of the bytes of a font without segments. Beside the file and its
-/// source it takes at most once the memory of the file where the encrypted part is in binary.
+/// The last bytes, as many as a tail mostly has at most, or all.
+fn last_bytes(bytes: &[u8]) -> &[u8]
+    ensures { result.now ≡ drop (length bytes.now - 2048) bytes.now }
+{
+    bytes.split_at(bytes.len().saturating_sub(TAIL)).1
+}
+
+/// Adds the lines of what stands after so many encrypted bytes, which were made plain in place; of
+/// the last ones there is a copy.
+fn push_flat_tail(
+    alloc: Global,
+    text: &mut CodedText,
+    coded: &mut [u8],
+    last: &[u8],
+    count: usize,
+) -> Result<(), AllocError>
+    requires within { count ≤ length coded.now }
+    requires last { (encrypted : List ℕ) → coded.now ≡ deciphered 55665 encrypted
+        → last.now ≡ drop (length encrypted - 2048) encrypted }
+    ensures { (encrypted : List ℕ) → coded.old ≡ deciphered 55665 encrypted
+        → OnOk result (text.new ≡ text.old ++ joined (tail_of (lines (drop count encrypted)))) }
+{
+    let left = coded.len() - count;
+    if left <= last.len() {
+        return push_tail(alloc, text, past(last, last.len() - left));
+    }
+    encipher_private(coded);
+    push_tail(alloc, text, past(coded, count))
+}
+
+/// Adds the lines of an encrypted part in binary whose file has no segments, and those of what
+/// stands after it. The plain bytes take the place of the encrypted ones.
+fn push_flat(alloc: Global, text: &mut CodedText, coded: &mut [u8]) -> Result<(), FontRefusal>
+    ensures { GivesFont (λ _. text.new) result (flat_onto text.old coded.old) }
+{
+    let last = Vec::from_slice(alloc, last_bytes(coded))?;
+    decipher_private(coded);
+    let count = push_counted(alloc, text, past_lead(coded))?;
+    push_flat_tail(
+        alloc,
+        text,
+        coded,
+        &last,
+        (EEXEC_LEAD + count).min(coded.len()),
+    )?;
+    Ok(())
+}
+
+/// Adds the lines of an encrypted part that stands after so many bytes of a file without segments,
+/// and those of what stands after it. Of binary bytes it takes no copy.
+fn push_alone(
+    alloc: Global,
+    text: &mut CodedText,
+    file: &mut [u8],
+    len: usize,
+) -> Result<(), FontRefusal>
+    requires { len ≤ length file.now }
+    ensures { GivesFont
+        (λ _. text.new)
+        result
+        (source_onto text.old
+        (record { clear = file.old; coded = []; tail = [] })
+        (past_spaces (drop len file.old ++ []))) }
+{
+    let place = len + space_len(past(file, len));
+    let coded = past(file, place);
+    if is_hexadecimal(coded) {
+        let parts = LentParts {
+            clear: file,
+            coded: b"",
+            tail: b"",
+        };
+        return push_source(alloc, text, &parts, coded);
+    }
+    push_flat(alloc, text, file.split_at_mut(place).1)
+}
+
+/// The source of a file without segments. Of the file nothing is known afterwards.
+#[tactic(auto, using(crate::proofs::ClearLaws::clear_fails, crate::proofs::ClearLaws::behind_clear))]
+fn source_of_flat(alloc: Global, file: &mut [u8]) -> Result<CodedText, FontRefusal>
+    ensures { GivesFont
+        (λ text. text)
+        result
+        (source_of (record { clear = file.old; coded = []; tail = [] }) (after_eexec file.old)) }
+{
+    let len = clear_len(file)?;
+    let mut lines = Vec::new(alloc);
+    push_lines_of(&mut lines, file.split_at(len).0)?;
+    let mut text = CodedText::after(alloc, lines);
+    match push_alone(alloc, &mut text, file, len) {
+        Ok(()) => Ok(text),
+        Err(refusal) => Err(refusal),
+    }
+}
+
+/// The source of a font's file, with the bytes of its charstrings.
 #[tactic(auto, unfolding(crate::specs::Disassembly::disassembled, crate::specs::SegmentsRead::font_parts))]
-pub fn disassemble(alloc: Global, file: &[u8]) -> Result<Vec<u8>, FontRefusal>
-    ensures { GivesFont (λ text. text.items) result (disassembled file.now) }
+fn coded_source(alloc: Global, file: &[u8]) -> Result<CodedText, FontRefusal>
+    ensures { GivesFont (λ text. text) result (disassembled file.now) }
 {
     if has_segments(file) {
         return source_of_segments(alloc, file);
@@ -422,18 +541,31 @@ pub fn disassemble(alloc: Global, file: &[u8]) -> Result<Vec<u8>, FontRefusal>
     source_of_parts(alloc, file, &mut none, file.split_at(0).0)
 }
 
-/// The same, where the file's memory may change: of a file whose second segment alone is binary it
-/// takes no copy of the encrypted part. Of the file nothing is known afterwards.
-#[tactic(auto, unfolding(crate::specs::Disassembly::disassembled, crate::specs::SegmentsRead::font_parts))]
-pub fn disassemble_in_place(alloc: Global, file: &mut [u8]) -> Result<Vec<u8>, FontRefusal>
-    ensures { GivesFont (λ text. text.items) result (disassembled file.old) }
+/// The source of a font's file, in the form that `assemble` reads: of a PFB file, whatever its
+/// segments, of a PFA file, or of the bytes of a font without segments. Beside the file and its
+/// source it takes at most twice the memory of the file where the encrypted part is in binary.
+pub fn disassemble(alloc: Global, file: &[u8]) -> Result<Vec<u8>, FontRefusal>
+    ensures { GivesFont (λ text. text.items) result (disassembled file.now) }
 {
+    Ok(coded_source(alloc, file)?.into_bytes())
+}
+
+/// The same with the bytes of its charstrings, where the file's memory may change: of a binary
+/// encrypted part it takes no copy where the file has no segments, or one of it alone. Of the file
+/// nothing is known afterwards.
+#[tactic(auto, unfolding(crate::specs::Disassembly::disassembled, crate::specs::SegmentsRead::font_parts))]
+pub fn disassemble_in_place(alloc: Global, file: &mut [u8]) -> Result<CodedText, FontRefusal>
+    ensures { GivesFont (λ text. text) result (disassembled file.old) }
+{
+    if !has_segments(file) {
+        return source_of_flat(alloc, file);
+    }
     let Some((text_len, binary_len)) = front_lens(file) else {
-        return disassemble(alloc, file);
+        return coded_source(alloc, file);
     };
     let behind = file.split_at(HEADS_LEN + text_len + binary_len).1;
     let Some(tail) = text_left(alloc, file.len(), behind)? else {
-        return disassemble(alloc, file);
+        return coded_source(alloc, file);
     };
     let (front, back) = file.split_at_mut(HEADS_LEN + text_len);
     let clear = past(front.split_at(HEAD_LEN + text_len).0, HEAD_LEN);

@@ -7,14 +7,10 @@ ghost use Rattle.t1_disassemble.specs.Words.{words_of_encrypted};
 ghost use Rattle.t1_disassemble.specs.WordsOnto.{words_onto};
 ghost use Rattle.t1_disassemble.specs.declared.fault.FontPlace.TheVariants.{Nowhere};
 
-use crate::charstring::push_encrypted;
 use crate::fault::FontRefusal;
-use crate::known_word::KnownWord;
+use crate::known::Known;
 use std::alloc::AllocError;
 use t1_frac::Bytes;
-
-/// About how many times as long as a font's private text its lines are in the source.
-const LENGTHS: usize = 4;
 
 /// Lines that are put one behind another.
 pub(crate) trait Lines {
@@ -36,7 +32,7 @@ pub(crate) trait Lines {
     /// there.
     fn add_words(
         &mut self,
-        known: &[KnownWord],
+        known: &Known,
         buffer: &mut Vec<u8>,
         lead: u8,
         bytes: &[u8],
@@ -46,32 +42,6 @@ pub(crate) trait Lines {
             result
             (font_reported_at Nowhere (words_onto (text self.old) false
             (words_of_encrypted lead bytes.now))) };
-}
-
-impl Lines for Vec<u8> {
-    ghost text = { λ text. text.items };
-
-    fn make_room(&mut self, private: usize) -> Result<(), AllocError> {
-        self.reserve(private.saturating_mul(LENGTHS))
-    }
-
-    fn add_line(&mut self, front: &[u8], middle: &[u8], back: &[u8]) -> Result<(), AllocError> {
-        self.extend_from_slice(front)?;
-        self.extend_from_slice(middle)?;
-        self.extend_from_slice(back)?;
-        self.push(b'\n')?;
-        Ok(())
-    }
-
-    fn add_words(
-        &mut self,
-        known: &[KnownWord],
-        buffer: &mut Vec<u8>,
-        lead: u8,
-        bytes: &[u8],
-    ) -> Result<(), FontRefusal> {
-        push_encrypted(known, self, buffer, lead, bytes)
-    }
 }
 
 /// Adds some lines.

@@ -16,7 +16,7 @@ use crate::cipher::decipher_charstring;
 use crate::fault::{FontCode, FontFault, FontPlace, FontRefusal};
 use crate::front::past;
 use crate::kinds::section_counts;
-use crate::known_word::KnownWord;
+use crate::known::Known;
 use crate::lines::Lines;
 use crate::private::up_to;
 use std::alloc::{AllocError, Global};
@@ -75,7 +75,7 @@ fn push_parts(
 }
 
 /// Adds a line, of three parts, or nothing where memory runs out.
-fn push_line_of(
+pub(crate) fn push_line_of(
     text: &mut Vec<u8>,
     front: &[u8],
     middle: &[u8],
@@ -104,7 +104,7 @@ fn most_two(count: usize, more: usize) -> usize
 
 /// Passes on some lines, and the words of the charstring behind them.
 fn put_cut<W: Write>(
-    known: &[KnownWord],
+    known: &Known,
     outlet: &mut Outlet<W>,
     cut: &Cut,
     lines: &[u8],
@@ -175,11 +175,7 @@ impl Packed {
     }
 
     /// Passes on the text.
-    pub(crate) fn put<W: Write>(
-        &self,
-        known: &[KnownWord],
-        outlet: &mut Outlet<W>,
-    ) -> io::Result<()>
+    pub(crate) fn put<W: Write>(&self, known: &Known, outlet: &mut Outlet<W>) -> io::Result<()>
         ensures { Puts W.contents outlet.old outlet.new self.now result }
     {
         let mut lines = self.lines.as_slice();
@@ -214,7 +210,7 @@ impl Lines for Packed {
     #[tactic(auto, unfolding(crate::specs::Words::words_of_encrypted))]
     fn add_words(
         &mut self,
-        known: &[KnownWord],
+        known: &Known,
         buffer: &mut Vec<u8>,
         lead: u8,
         bytes: &[u8],

@@ -25,7 +25,7 @@ use crate::disassembly::{
 use crate::fault::{FontCode, FontFault, FontPlace, FontRefusal};
 use crate::front::{after_eexec, past, past_spaces, space_len};
 use crate::kinds::check_kind;
-use crate::known_word::{KnownWord, known_words};
+use crate::known::Known;
 use crate::lines::add_lines;
 use crate::packed::Packed;
 use crate::places::{byte_place, fault_byte, fault_moved, front_place};
@@ -46,7 +46,7 @@ use t1_parts::tail_of;
 pub struct FontSource {
     front: Vec<u8>,
     lines: Packed,
-    known: Vec<KnownWord>,
+    known: Known,
 }
 
 impl Model for FontSource {
@@ -171,7 +171,6 @@ fn packed_flat(alloc: Global, coded: &mut [u8]) -> Result<Packed, FontRefusal>
 
 /// The lines of an encrypted part that stands after so many bytes of a file without segments, and
 /// those of what stands after it. Of binary bytes it takes no copy.
-
 fn packed_alone(
     alloc: Global,
     clear: &mut [u8],
@@ -303,7 +302,7 @@ fn has_coded(clear: &[u8]) -> bool
 }
 
 /// How many bytes of a clear text stand before those after its eexec line, or its fault.
-fn clear_len(clear: &[u8]) -> Result<usize, FontFault>
+pub(crate) fn clear_len(clear: &[u8]) -> Result<usize, FontFault>
     ensures within { IfOk result (λ len. len ≤ length clear.now) }
     ensures found { IfOk result (λ len. after_eexec clear.now ≡ Some (drop len clear.now)) }
     ensures kind { IfOk result (λ len. plain_kind (take len clear.now)
@@ -344,7 +343,7 @@ fn source_behind(
     let mut front = Vec::new(alloc);
     push_lines_of(&mut front, clear.split_at(len).0)?;
     let lines = packed_coded(alloc, clear, len, coded, tail)?;
-    let known = known_words(alloc)?;
+    let known = Known::new(alloc)?;
     Ok(FontSource {
         front,
         lines,

@@ -21,7 +21,7 @@ ghost use Rattle.t1_disassemble.specs.WordsOnto.{words_onto};
 
 use crate::fault::{FontCode, FontFault, FontPlace, FontRefusal};
 use crate::front::{line_len, line_len_after, past};
-use crate::known_word::{KnownWord, known_words};
+use crate::known::Known;
 use crate::layouts::{are_one, is_closefile};
 use crate::lines::Lines;
 use crate::opening::{Opening, first_opening};
@@ -110,7 +110,7 @@ fn at_entry(alloc: Global, opening: &Opening, refusal: FontRefusal) -> FontRefus
 /// Adds the words of an entry's charstring.
 fn push_charstring<T: Lines>(
     alloc: Global,
-    known: &[KnownWord],
+    known: &Known,
     text: &mut T,
     buffer: &mut Vec<u8>,
     lead: u8,
@@ -161,7 +161,7 @@ fn after_end(bytes: &[u8]) -> &[u8]
 /// it.
 fn push_entry<'a, T: Lines>(
     alloc: Global,
-    known: &[KnownWord],
+    known: &Known,
     text: &mut T,
     buffer: &mut Vec<u8>,
     lead: u8,
@@ -258,7 +258,7 @@ fn push_whole_line<'a, T: Lines>(
 #[tactic(auto, unfolding(crate::specs::PiecesOnto::read_onto), using(crate::proofs::Pieces::shorter_after, crate::proofs::Pieces::dropped_twice))]
 fn push_piece<'a, T: Lines>(
     alloc: Global,
-    known: &[KnownWord],
+    known: &Known,
     text: &mut T,
     buffer: &mut Vec<u8>,
     settings: &Settings,
@@ -309,7 +309,7 @@ pub(crate) fn push_private<'a, T: Lines>(
         bytes.now) }
     ensures within { IfOk result (λ rest. length rest.now ≤ length bytes.now) }
 {
-    let known = known_words(alloc)?;
+    let known = Known::new(alloc)?;
     text.make_room(bytes.len())?;
     let mut buffer = Vec::new(alloc);
     let mut waits = false;

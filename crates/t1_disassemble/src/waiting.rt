@@ -80,7 +80,7 @@ fn put_digit(bytes: &mut [u8; ROOM], len: usize, number: u32) -> usize
 /// Puts the digits of a number below 10,000 after those that wait, and answers how many wait then.
 #[inline(always)]
 #[tactic(auto, using(crate::proofs::SmallNumbers::one_digit))]
-fn put_small(bytes: &mut [u8; ROOM], len: usize, number: u32) -> usize
+pub(crate) fn put_small(bytes: &mut [u8; ROOM], len: usize, number: u32) -> usize
     requires small { number < 10000 }
     requires room { len + 4 ≤ 256 }
     ensures size { length bytes.new ≡ 256 }

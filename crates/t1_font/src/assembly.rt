@@ -19,7 +19,7 @@ use std::io::Write;
 use t1_code::{
     BlockSize, Counted, FileForm, OutError, Parts, Pfa, Pfb, Piece, encrypt_words, write_file,
 };
-use t1_frac::{Bytes, Place, Refusal, Words};
+use t1_frac::{Bytes, Refusal, Words};
 use t1_parts::{ItemRef, Items, operator_of, push_line, push_lines};
 use t1_source::Source;
 
@@ -118,7 +118,7 @@ fn encrypt_subr(code: &mut Vec<u8>, lead: u8, number: u16, words: &Words) -> Res
         (reported_at (places.Subr number) (encrypted_words lead words.now)) }
 {
     match encrypt_words(code, lead, words) {
-        Err(refusal) => Err(refusal.at(Place::Subr(number))),
+        Err(refusal) => Err(refusal.at_subr(number)),
         encrypted => encrypted,
     }
 }

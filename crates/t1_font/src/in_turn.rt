@@ -17,13 +17,14 @@ ghost use Rattle.t1_font.specs.ToRun.{commands_or_none, glyph_to_run};
 ghost use Rattle.t1_font.specs.Runs.{drawing_kept, drawing_in, run_kept, IsTracedAs};
 ghost use Rattle.t1_font.specs.RunCounts.{counted};
 
+use crate::compiler::Compiler;
 use crate::glyph_metrics::GlyphMetrics;
 use crate::numbers::SubrNumbers;
 use crate::runs::{Runs, kept_run_of};
 use crate::source_bodies::SourceBodies;
 use crate::standard_names::StandardNames;
 use std::alloc::{AllocError, Global};
-use t1_code::{Command, compile_onto};
+use t1_code::Command;
 use t1_extent::KeptRun;
 use t1_frac::{Code, Refusal, SourceText, Words};
 use t1_run::{Meter, Segment};
@@ -162,8 +163,9 @@ impl Scratch {
 /// Puts the commands of a glyph's words in the place of what stood there, or answers their fault
 /// with the glyph's name.
 #[tactic(auto, unfolding(crate::specs::Bodies::words_check))]
-fn compile_glyph(
+fn compile_glyph<C: Compiler>(
     alloc: Global,
+    compiler: &mut C,
     body: &mut Vec<Command>,
     name: &[u8],
     words: &Words,
@@ -172,7 +174,7 @@ fn compile_glyph(
     ensures body { OnOk result (body.new.items ≡ commands_or_none (commands words.now)) }
 {
     body.clear();
-    match compile_onto(body, words) {
+    match compiler.compile_next(body, words) {
         Err(refusal) => Err(refusal.at_glyph(alloc, name)),
         compiled => compiled,
     }
@@ -180,8 +182,9 @@ fn compile_glyph(
 
 /// Compiles and runs a glyph: what is reported of it, or the fault of its words. Its run is kept
 /// where it stays.
-pub(crate) fn glyph_turn<'a>(
+pub(crate) fn glyph_turn<'a, C: Compiler>(
     alloc: Global,
+    compiler: &mut C,
     source: &SourceBodies,
     name: &'a [u8],
     words: &Words,
@@ -203,7 +206,7 @@ pub(crate) fn glyph_turn<'a>(
         ≡ (if bytes_eq g name.now && may_be_part name.now (run name.now) then run name.now else
         drawing_in runs.old g)) }
 {
-    compile_glyph(alloc, &mut scratch.body, name, words)?;
+    compile_glyph(alloc, compiler, &mut scratch.body, name, words)?;
     let kept = kept_run_of(
         alloc,
         source,

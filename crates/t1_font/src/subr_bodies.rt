@@ -9,11 +9,12 @@ ghost use Rattle.t1_code.specs.FoundCommands.{after_others};
 ghost use Rattle.t1_font.specs.Bodies.{words_check};
 ghost use Rattle.t1_font.specs.StoredSubrs.{subr_stored};
 
+use crate::compiler::Compiler;
 use indexmap::IndexMap;
 use std::alloc::Global;
 use std::marker::Model;
-use t1_code::{Command, compile_onto};
-use t1_frac::{Place, Refusal, Words};
+use t1_code::Command;
+use t1_frac::{Refusal, Words};
 
 /// Where a body stands among the commands of all.
 #[derive(Clone, Copy)]
@@ -42,14 +43,19 @@ impl Model for SubrBodies {
 }
 
 /// Adds the commands of a Subr's words to others, or answers their fault with the Subr's number.
-fn compile_subr(others: &mut Vec<Command>, number: u16, words: &Words) -> Result<(), Refusal>
+fn compile_subr<C: Compiler>(
+    compiler: &mut C,
+    others: &mut Vec<Command>,
+    number: u16,
+    words: &Words,
+) -> Result<(), Refusal>
     ensures value { Gives (λ _. others.new.items) result
         (reported_at (places.Subr number)
         (after_others others.old.items (commands words.now))) }
     ensures front { take (length others.old.items) others.new.items ≡ others.old.items }
 {
-    match compile_onto(others, words) {
-        Err(refusal) => Err(refusal.at(Place::Subr(number))),
+    match compiler.compile_next(others, words) {
+        Err(refusal) => Err(refusal.at_subr(number)),
         compiled => compiled,
     }
 }
@@ -77,7 +83,12 @@ impl SubrBodies {
 
     /// Adds the body of a Subr, where there is none of its number.
     #[tactic(auto, unfolding(crate::specs::Bodies::words_check))]
-    pub(crate) fn add(&mut self, number: u16, words: &Words) -> Result<(), Refusal>
+    pub(crate) fn add<C: Compiler>(
+        &mut self,
+        compiler: &mut C,
+        number: u16,
+        words: &Words,
+    ) -> Result<(), Refusal>
         ensures checked { Gives (λ x. x) result (words_check (places.Subr number) words.now) }
         ensures added { OnOk result
             ((n : ℕ)
@@ -86,7 +97,7 @@ impl SubrBodies {
             (if n == number then result_ok (commands words.now) else None)) }
     {
         let start = self.all.len();
-        compile_subr(&mut self.all, number, words)?;
+        compile_subr(compiler, &mut self.all, number, words)?;
         if self.ranges.contains_key(&number) {
             return Ok(());
         }

@@ -22,6 +22,7 @@ ghost use Rattle.t1_font.specs.Runs.{drawing_in};
 ghost use Rattle.t1_font.specs.ToRun.{glyph_to_run};
 ghost use Rattle.t1_font.specs.StoredSubrs.{subr_stored};
 
+use crate::compiler::{Compiler, WordsCompiler};
 use crate::glyph_metrics::{GlyphMetrics, placed_metrics};
 use crate::glyphs::{MeasuredGlyphs, name_of};
 use crate::in_turn::{Row, Scratch, glyph_turn};
@@ -107,9 +108,10 @@ impl Turns {
     }
 
     /// Takes an item of a source, or answers the fault of its words.
-    fn take<'a>(
+    fn take<'a, C: Compiler>(
         &mut self,
         alloc: Global,
+        compiler: &mut C,
         items: &'a Items,
         names: &IndexSet<&'a [u8]>,
         item: &'a Item,
@@ -135,7 +137,7 @@ impl Turns {
             → drawing_in reported.new.runs g ≡ staying run (gs ++ name_in item.now) g) }
     {
         match item {
-            Item::Subr(number, words, _) => self.subrs.add(*number, words),
+            Item::Subr(number, words, _) => self.subrs.add(compiler, *number, words),
             Item::Glyph(name, words, _) => {
                 let source = SourceBodies {
                     subrs: &self.subrs,
@@ -144,6 +146,7 @@ impl Turns {
                 };
                 let row = glyph_turn(
                     alloc,
+                    compiler,
                     &source,
                     name.as_slice(),
                     words,
@@ -160,9 +163,10 @@ impl Turns {
 
     /// Takes the items of a source, one after another, or answers the first fault of a body, at its
     /// entry.
-    fn take_all<'a>(
+    fn take_all<'a, C: Compiler>(
         &mut self,
         alloc: Global,
+        compiler: &mut C,
         items: &'a Items,
         names: &IndexSet<&'a [u8]>,
         reported: &mut Reported<'a>,
@@ -178,7 +182,7 @@ impl Turns {
         ensures turns { OnOk result (AreTurnsOf items.now reported.new.rows reported.new.runs) }
     {
         for item in items.iter().alone() {
-            self.take(alloc, items, names, item, reported)?;
+            self.take(alloc, compiler, items, names, item, reported)?;
         }
         Ok(())
     }
@@ -187,8 +191,9 @@ impl Turns {
 /// Adds what is reported of the glyphs of a source to nothing, and the runs that stay; or answers
 /// the first fault of a body, at its entry. Subrs are compiled and glyphs are compiled and run in
 /// the order of the items, each once.
-fn report<'a>(
+fn report<'a, C: Compiler>(
     alloc: Global,
+    compiler: &mut C,
     items: &'a Items,
     names: &IndexSet<&'a [u8]>,
     reported: &mut Reported<'a>,
@@ -203,13 +208,14 @@ fn report<'a>(
     ensures turns { OnOk result (AreTurnsOf items.now reported.new.rows reported.new.runs) }
 {
     let mut turns = Turns::new(alloc)?;
-    turns.take_all(alloc, items, names, reported)
+    turns.take_all(alloc, compiler, items, names, reported)
 }
 
 /// What is reported of the glyphs of a source, which have these names, and the runs that stay; or
 /// the first fault of a body, at its entry.
-fn reported_of<'a>(
+fn reported_of<'a, C: Compiler>(
     alloc: Global,
+    compiler: &mut C,
     items: &'a Items,
     names: &IndexSet<&'a [u8]>,
 ) -> Result<Reported<'a>, Refusal>
@@ -221,19 +227,23 @@ fn reported_of<'a>(
     ensures turns { IfOk result (λ turns. AreTurnsOf items.now turns.rows turns.runs) }
 {
     let mut reported = Reported::with_room(alloc, names.len())?;
-    report(alloc, items, names, &mut reported)?;
+    report(alloc, compiler, items, names, &mut reported)?;
     Ok(reported)
 }
 
 /// The same of a source, by the names of its glyphs.
-fn turns_of<'a>(alloc: Global, items: &'a Items) -> Result<Reported<'a>, Refusal>
+fn turns_of<'a, C: Compiler>(
+    alloc: Global,
+    compiler: &mut C,
+    items: &'a Items,
+) -> Result<Reported<'a>, Refusal>
     requires firsts { All (IsFirstOfName items.now) items.now }
     requires order { SubrsStandFirst items.now }
     ensures checked { Gives (λ _. tt) result (bodies_check items.now) }
     ensures turns { IfOk result (λ turns. AreTurnsOf items.now turns.rows turns.runs) }
 {
     let names = names_of(alloc, items)?;
-    reported_of(alloc, items, &names)
+    reported_of(alloc, compiler, items, &names)
 }
 
 /// What is measured of a glyph of which this is reported, or its first fault, at the glyph.
@@ -279,14 +289,18 @@ fn metrics_of_rows<'a>(
 /// What is reported of the glyphs of a source whose PFB file and text have no fault; or the first
 /// fault: of a body, at its entry, else F23.
 #[tactic(auto, using(crate::proofs::LengthLaws::body_fault_reported))]
-fn checked_turns<'a>(alloc: Global, source: &'a Source) -> Result<Reported<'a>, Refusal>
+fn checked_turns<'a, C: Compiler>(
+    alloc: Global,
+    compiler: &mut C,
+    source: &'a Source,
+) -> Result<Reported<'a>, Refusal>
     requires firsts { All (IsFirstOfName source.now.items) source.now.items }
     requires order { SubrsStandFirst source.now.items }
     ensures file { Gives (λ _. tt) result (file_check source.now) }
     ensures no_fault { IfOk result (λ _. bodies_check source.now.items ≡ Ok tt) }
     ensures turns { IfOk result (λ turns. AreTurnsOf source.now.items turns.rows turns.runs) }
 {
-    let turns = turns_of(alloc, source.items())?;
+    let turns = turns_of(alloc, compiler, source.items())?;
     check_file(alloc, source)?;
     Ok(turns)
 }
@@ -306,13 +320,25 @@ fn measured_turns<'a>(alloc: Global, turns: Reported<'a>) -> Result<MeasuredGlyp
 
 /// What is measured of the glyphs of a source, in the order of their entries, and the font's box;
 /// or the source's first fault: of a body, at its entry, F23, or of a glyph, at the glyph. Each
-/// glyph is compiled and run once, and no body of one is stored.
+/// body is compiled in the order of the entries, and each glyph is run once. No body of one is
+/// stored.
 #[tactic(auto, unfolding(crate::specs::SourceChecks::measured_source))]
-pub fn measured_glyphs<'a>(alloc: Global, source: &'a Source) -> Result<MeasuredGlyphs<'a>, Refusal>
+pub fn measured_glyphs_by<'a, C: Compiler>(
+    alloc: Global,
+    compiler: &mut C,
+    source: &'a Source,
+) -> Result<MeasuredGlyphs<'a>, Refusal>
     ensures { Gives (λ glyphs. glyphs) result (measured_source source.now) }
 {
     source_is_well_formed(source);
     subrs_stand_first();
-    let turns = checked_turns(alloc, source)?;
+    let turns = checked_turns(alloc, compiler, source)?;
     measured_turns(alloc, turns)
+}
+
+/// The same, where the words of each body are read.
+pub fn measured_glyphs<'a>(alloc: Global, source: &'a Source) -> Result<MeasuredGlyphs<'a>, Refusal>
+    ensures { Gives (λ glyphs. glyphs) result (measured_source source.now) }
+{
+    measured_glyphs_by(alloc, &mut WordsCompiler, source)
 }

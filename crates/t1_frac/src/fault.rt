@@ -106,7 +106,7 @@ pub enum Refusal {
 impl Refusal {
     ghost use Rattle.std.specs.Prelude.{◌≡◌};
     ghost use Rattle.t1_frac.specs.Refusals.{placed, IsPlaced};
-    ghost use Rattle.t1_frac.specs.declared.fault.Place.TheVariants.{Glyph};
+    ghost use Rattle.t1_frac.specs.declared.fault.Place.TheVariants.{Glyph, Subr};
 
     /// The same refusal, its fault at this place.
     pub fn at(self, place: Place) -> Refusal
@@ -119,6 +119,13 @@ impl Refusal {
             }),
             Refusal::Memory => Refusal::Memory,
         }
+    }
+
+    /// The same refusal, its fault at the Subr of this number. It takes no memory.
+    pub fn at_subr(self, number: u16) -> Refusal
+        ensures { result ≡ placed (Subr number) self }
+    {
+        self.at(Place::Subr(number))
     }
 
     /// The same refusal, its fault at the glyph of this name; or out of memory for a copy of the

@@ -24,8 +24,8 @@
 //! - `assemble_source`, `assemble_blocks`, `assemble_pfa`, `measure_source`: `Delivers` of the file
 //!   of the source's bytes. A fault is that of reading, else of the pairs, else the first of a body
 //!   at its entry, else F23, else of a glyph. `laws`: a source without a fault has each file; past
-//!   reading, an AFM file is refused by `source_check` and by nothing else. `check_source`:
-//!   `verdict`.
+//!   reading, an AFM file is refused by `source_check` and by nothing else. `measure_source_by`:
+//!   the same file, whatever the compiler knows of the bodies. `check_source`: `verdict`.
 //! - `Session`: what each call answers and leaves (`Takes`, `Took`), which runs it makes and which
 //!   records it keeps (`Reruns`, `Renews`, `Spends`), and what each print writes. What it holds is
 //!   that of its source from scratch at any time (its invariant, `IsHeld`). The batch that is open
@@ -52,5 +52,5 @@ pub use assembling::{assemble_blocks, assemble_pfa, assemble_source};
 pub use checking::check_source;
 pub use dialogue::{serve, takes_body};
 pub use error::ServeError;
-pub use measuring::measure_source;
+pub use measuring::{measure_source, measure_source_by};
 pub use session::Session;

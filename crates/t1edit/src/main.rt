@@ -39,6 +39,7 @@ mod fault_json;
 mod fault_lines;
 mod file_error;
 mod finding;
+mod font_bodies;
 mod identity;
 mod input;
 mod line;

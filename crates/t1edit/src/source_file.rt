@@ -2,6 +2,7 @@
 //! made; and what the commands make of its source.
 
 ghost use Rattle.std.specs.Prelude.{◌≡◌};
+ghost use Rattle.t1_disassemble.specs.Disassembly.{disassembled};
 ghost use Rattle.t1edit.specs.Sources.{kind_of, source_in, OnSource};
 ghost use Rattle.t1edit.specs.Answering.{GivesSource};
 ghost use Rattle.t1edit.specs.Assembling.{file_in_form};
@@ -13,13 +14,15 @@ ghost use Rattle.t1_session.specs.Machine.{scratch};
 ghost use Rattle.t1_session.specs.Files.{metrics_file};
 
 use crate::file_error::FileError;
+use crate::font_bodies::FontBodies;
 use std::alloc::Global;
 use std::io::{Read, Write};
 use t1_code::{BlockSize, Counted};
-use t1_disassemble::disassemble_in_place;
+use t1_disassemble::{CodedText, disassemble_in_place};
 use t1_frac::Refusal;
 use t1_session::{
-    ServeError, assemble_blocks, assemble_pfa, assemble_source, check_source, measure_source, serve,
+    ServeError, assemble_blocks, assemble_pfa, assemble_source, check_source, measure_source,
+    measure_source_by, serve,
 };
 
 /// What a file is that is named as the source.
@@ -58,9 +61,17 @@ pub fn source_in(alloc: Global, kind: Kind, file: Vec<u8>) -> Result<Vec<u8>, Fi
         Kind::Source => Ok(file),
         Kind::Font => {
             let mut file = file;
-            Ok(disassemble_in_place(alloc, &mut file)?)
+            Ok(disassemble_in_place(alloc, &mut file)?.into_bytes())
         }
     }
+}
+
+/// The source of a font, with its charstrings. The memory of the font's file is given back.
+fn coded_source(alloc: Global, font: Vec<u8>) -> Result<CodedText, FileError>
+    ensures { GivesSource (λ text. text) result (disassembled font.items) }
+{
+    let mut font = font;
+    Ok(disassemble_in_place(alloc, &mut font)?)
 }
 
 /// Writes the file of a source in a form.
@@ -114,6 +125,23 @@ pub fn serve_file<R: Read, W: Write>(
     Ok(serve(alloc, &source, pairs, reader, writer)?)
 }
 
+/// Writes the AFM file of the source of a font, whose bodies are compiled by its charstrings, with
+/// the pairs of a kerning file.
+fn measure_font<W: Write>(
+    alloc: Global,
+    font: Vec<u8>,
+    pairs: &[u8],
+    out: &mut Counted<W>,
+) -> Result<(), FileError>
+    ensures { OnSource (disassembled font.items) out.old out.new
+        (λ source answer. Delivers W.contents out.old out.new
+        (metrics_file source pairs.now) answer) result }
+{
+    let text = coded_source(alloc, font)?;
+    let mut bodies = FontBodies::of(alloc, &text)?;
+    Ok(measure_source_by(alloc, &mut bodies, text.as_bytes(), pairs, out)?)
+}
+
 /// Writes the AFM file of the source of a file, with the pairs of a kerning file.
 pub fn measure_file<W: Write>(
     alloc: Global,
@@ -126,8 +154,10 @@ pub fn measure_file<W: Write>(
         (λ source answer. Delivers W.contents out.old out.new
         (metrics_file source pairs.now) answer) result }
 {
-    let source = source_in(alloc, kind, file)?;
-    Ok(measure_source(alloc, &source, pairs, out)?)
+    match kind {
+        Kind::Source => Ok(measure_source(alloc, &file, pairs, out)?),
+        Kind::Font => measure_font(alloc, file, pairs, out),
+    }
 }
 
 /// What judging answers, as a call over whole files does.

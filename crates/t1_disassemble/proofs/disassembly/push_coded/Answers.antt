@@ -13,5 +13,5 @@ returns-then-is_binary c =
     let place : past_spaces (after ++ coded) ≡ coded = search rules in
     let binary : is_hexadecimal coded ≡ false = search rules in
     let some : 0 < length coded = search rules in
-    let same = coded_in_segments c.args.text.now.items c.args.clear.now after coded c.args.tail.now place binary some in
-    subst (λ (g : Result (List ℕ) FontFault). GivesFont (λ _. c.push_binary.new.text.items) c.push_binary.result g) (sym same) c.push_binary.ensures
+    let same = coded_in_segments c.args.text.now c.args.clear.now after coded c.args.tail.now place binary some in
+    subst (λ (g : Result (List ℕ) FontFault). GivesFont (λ _. c.push_binary.new.text) c.push_binary.result g) (sym same) c.push_binary.ensures

@@ -19,7 +19,7 @@ returns-in_err-push_coded c =
     let before : before_rest parts.clear after ≡ front = search rules in
     let kind : plain_kind front ≡ Ok front = search rules in
     let same = ap (source_of parts) found ∙ kind_again parts after front before kind in
-    subst (λ (g : Result (List ℕ) FontFault). GivesFont (λ text. text.items) c.from_residual-in_err-push_coded.result g) (sym same) (search rules)
+    subst (λ (g : Result (List ℕ) FontFault). GivesFont (λ text. text) c.from_residual-in_err-push_coded.result g) (sym same) (search rules)
 
 pub returns : goal.returns
 returns c =
@@ -29,5 +29,5 @@ returns c =
     let found : after_eexec parts.clear ≡ Some after = search rules in
     let before : before_rest parts.clear after ≡ front = search rules in
     let kind : plain_kind front ≡ Ok front = search rules in
-    let made : source_onto (joined (lines front)) parts (past_spaces (after ++ parts.coded)) ≡ Ok c.push_coded.new.text.items = search rules in
+    let made : source_onto (joined (lines front)) parts (past_spaces (after ++ parts.coded)) ≡ Ok c.push_coded.new.text = search rules in
     ap (source_of parts) found ∙ kind_again parts after front before kind ∙ made

@@ -20,7 +20,7 @@ use Rattle.t1_font.proofs.SubrsFirst.{later}
 use Rattle.t1_font.proofs.turns.Turns.take_all.Goals as goal
 
 pub loop-item-init : goal.loop-item-init
-loop-item-init c =
+loop-item-init g c =
     let items = c.args.items.now in
     let left = c.into_iter-item-iterator.result in
     let start : left ≡ filter stands_alone items = c.into_iter-item-iterator.ensures.into_iter_gives ∙ c.alone-item-items.ensures ∙ ap (filter stands_alone) c.iter.ensures.items in (
@@ -39,15 +39,15 @@ loop-item-init c =
     )
 
 pub take-requires-clause-known : goal.take-requires-clause-known
-take-requires-clause-known c = λ g. c.requires.names g ∙ names-known c.args.items.now g
+take-requires-clause-known g c = λ g. c.requires.names g ∙ names-known c.args.items.now g
 
 pub take-requires-clause-first : goal.take-requires-clause-first
-take-requires-clause-first c =
+take-requires-clause-first g c =
     let items = c.args.items.now in
     All-head (IsFirstOfName items) c.in-Some.item.now c.next.new.self (subst (All (IsFirstOfName items)) c.in-Some.ensures.steps c.loop-item.invariant.2.firsts)
 
 pub loop-item-preserved : goal.loop-item-preserved
-loop-item-preserved c =
+loop-item-preserved g c =
     let items = c.args.items.now in
     let item = c.in-Some.item.now in
     let rest = c.next.new.self in
@@ -75,7 +75,7 @@ loop-item-preserved c =
     )
 
 pub returns-in_err-take-clause-checked : goal.returns-in_err-take-clause-checked
-returns-in_err-take-clause-checked c =
+returns-in_err-take-clause-checked g c =
     let item = c.in-Some.item.now in
     let rest = c.next.new.self in
     let whole = sym (ap bodies_check c.in-Some.ensures.steps) ∙ c.loop-item.invariant.2.checked in

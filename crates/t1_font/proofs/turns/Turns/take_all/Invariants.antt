@@ -12,8 +12,8 @@ use Rattle.t1_font.proofs.turns.Turns.take_all.Given as goal
 
 -- what was reported of the items so far, and the bodies of those that are left
 abbrev pub invariant-loop-item : goal.invariant-loop-item
-invariant-loop-item l =
-    (goal.iterator-loop-item).can_next l.item-iterator × (goal.iterator-loop-item).is_finite l.item-iterator
+invariant-loop-item g l =
+    (goal.iterator-loop-item g).can_next l.item-iterator × (goal.iterator-loop-item g).is_finite l.item-iterator
     × record {
       firsts : All (IsFirstOfName l.items) l.item-iterator;
       order : SubrsStandFirst l.item-iterator;

@@ -2,7 +2,7 @@ use Rattle.std.proofs.Common.{ℕ, List, Result, subst, sym}
 use Rattle.t1_frac.specs.declared.fault.Fault.{Fault}
 use Rattle.t1_session.specs.Delivery.{Delivers}
 use Rattle.t1_session.proofs.Delivering.{metrics_read}
-use Rattle.t1_session.proofs.measuring.measure_source.Goals as goal
+use Rattle.t1_session.proofs.measuring.measure_source_by.Goals as goal
 
 pub returns : goal.returns
 returns g c =
