@@ -16,7 +16,7 @@ use crate::step::follow_word;
 use std::alloc::{AllocError, Global};
 use t1_code::Command;
 use t1_frac::Code;
-use t1_run::{Bodies, State};
+use t1_run::{Bodies, Segments, State};
 
 /// How many Subrs may be active at once.
 const MAX_ACTIVE: u8 = 10;
@@ -128,7 +128,7 @@ pub fn failure_of<B: Bodies>(
         option_map failure_seen failure
         ≡ failure_in (font (B.subrs bodies.now) (B.glyphs bodies.now)) body.now) }
 {
-    let mut state = State::new(alloc, Vec::new(alloc));
+    let mut state = State::new(alloc, Segments::new(alloc));
     let ending = follow(alloc, bodies, MAX_ACTIVE, body, &mut state)?;
     Ok(own_ending(alloc, body.len(), state.metric.is_some(), ending))
 }

@@ -1,5 +1,5 @@
 -- Commands that bytes spell, and their printed words read again.
-use Rattle.std.proofs.Common.{◌≡◌, ℕ, ℤ, suc, pos, Bool, true, false, not, ◌==◌, ◌&&◌, ◌+◌, ◌≤◌, ◌<◌, ◌^◌, ◌-ℤ◌, List, [], ◌∷◌, ◌++◌, length, take, drop, map, nat_eq, Result, Ok, Err, Some, FitsSigned, w32, negsuc, refl, sym, ap, subst, ◌∙◌, append_assoc, append-nil, inl, inr, arith, lit<}
+use Rattle.std.proofs.Common.{◌≡◌, ℕ, ℤ, suc, pos, Bool, true, false, ◌==◌, ◌≤◌, ◌<◌, ◌^◌, ◌-ℤ◌, List, [], ◌∷◌, ◌++◌, length, take, drop, map, nat_eq, Ok, Some, FitsSigned, w32, negsuc, refl, sym, ap, ◌∙◌, inl, inr, arith, lit<}
 use Rattle.std.proofs.lemmas.Bool.{and_parts, and_from, cases_Bool, leb-true, le-ltb, ne_eqb}
 use Rattle.std.proofs.lemmas.List.{take-append-drop}
 use Rattle.std.specs.Char.{is_ascii_digit}
@@ -22,7 +22,7 @@ use Rattle.t1_parts.specs.Entries.{is_word_byte, is_word}
 use Rattle.t1_parts.proofs.BodyLaws.{words_joined}
 use Rattle.t1_disassemble.specs.CommandWords.{command_word}
 use Rattle.t1_disassemble.specs.KnownCommands.{IsKnownCommand}
-use Rattle.t1_disassemble.specs.Words.{one_byte_words, word_at, front_word, words_of, printed_words}
+use Rattle.t1_disassemble.specs.Words.{one_byte_words, word_at, words_of, printed_words}
 use Rattle.t1_disassemble.proofs.KnownWordLaws.{number_read, command_read}
 use Rattle.t1_disassemble.proofs.PlainWords.{printed_number, printed_other}
 use Rattle.t1_disassemble.proofs.WordLaws.{commands_said, one_word}

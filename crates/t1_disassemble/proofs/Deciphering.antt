@@ -1,5 +1,5 @@
 -- Encryption undone.
-use Rattle.std.proofs.Common.{◌≡◌, ℕ, zero, suc, ◌+◌, ◌*◌, ◌/◌, ◌%◌, List, [], ◌∷◌, ◌++◌, length, replicate, drop, refl, ap, ◌∙◌, arith}
+use Rattle.std.proofs.Common.{◌≡◌, ℕ, zero, suc, ◌+◌, ◌*◌, ◌/◌, ◌%◌, ◌^◌, List, [], ◌∷◌, ◌++◌, length, replicate, drop, refl, ap, ◌∙◌, arith}
 use Rattle.std.specs.Prelude.{bit_xor}
 use Rattle.std.specs.Int.Bits.{xor_assoc, xor_self, xor_zero_r}
 use Rattle.t1_code.specs.Cipher.{cipher, next_key, key_after, eexec, encrypted_after, encrypted_charstring}
@@ -31,10 +31,10 @@ deciphered-append key (x ∷ xs) ys = ap (λ l. bit_xor x (key / 256) ∷ l) (de
 
 -- ---- the next key, and the one after it
 
-pub key_from : (key c : ℕ) → ((key + c) * 52845 + 22719) % 65536 ≡ next_key key c
+pub key_from : (key c : ℕ) → ((key * 52845) % 2 ^ 32 + (c * 52845 + 22719)) % 2 ^ 32 % 65536 ≡ next_key (key % 65536) c
 key_from key c = omega arith
 
-pub key_past : (key c d : ℕ) → ((key + c) * 39529 + (d * 52845 + 54290)) % 65536 ≡ next_key (next_key key c) d
+pub key_past : (key c d : ℕ) → ((key * 39529) % 2 ^ 32 + (c * 39529 + (d * 52845 + 54290))) % 2 ^ 32 % 65536 ≡ next_key (next_key (key % 65536) c) d
 key_past key c d = omega arith
 
 drop_zeros : (lead : ℕ) (plain : List ℕ) → drop lead (replicate lead 0 ++ plain) ≡ plain

@@ -1,5 +1,6 @@
 //! Charstring and eexec encryption undone.
-ghost use Rattle.std.specs.Prelude.{◌≡◌, ◌<◌, ◌≤◌, ◌+◌, ◌/◌, ◌++◌, ℕ, List, length, take, drop};
+ghost use Rattle.std.specs.Prelude.{◌≡◌, ◌<◌, ◌≤◌, ◌+◌, ◌/◌, ◌%◌, ◌++◌, ℕ, List, length, take};
+ghost use Rattle.std.specs.Prelude.{drop};
 ghost use Rattle.std.specs.Prelude.{bit_xor, OnOk};
 ghost use Rattle.t1_code.specs.Cipher.{next_key, cipher};
 ghost use Rattle.t1_disassemble.specs.Decipher.{deciphered};
@@ -17,15 +18,25 @@ const EEXEC_KEY: u16 = 55_665;
 /// key.
 #[derive(Drop)]
 struct Cipher {
-    key: u16,
+    /// The key, in the low 16 bits. The others are left as products make them, so that no step
+    /// between two keys takes them away.
+    key: u32,
 }
 
 impl Model for Cipher {
-    ghost use Rattle.std.specs.Prelude.{ℕ};
+    ghost use Rattle.std.specs.Prelude.{ℕ, ◌%◌};
 
     ghost Value = { ℕ };
 
-    ghost view = { λ d. d.key };
+    ghost view = { λ d. d.key % 65536 };
+}
+
+/// The high byte of a key, which is the low 16 bits.
+#[inline(always)]
+fn high_byte(key: u32) -> u8
+    ensures { result ≡ key % 65536 / 256 }
+{
+    (key / 256 % 256) as u8
 }
 
 impl Cipher {
@@ -33,7 +44,9 @@ impl Cipher {
     fn new(key: u16) -> Cipher
         ensures { result ≡ key }
     {
-        Cipher { key }
+        Cipher {
+            key: u32::from(key),
+        }
     }
 
     /// The plain byte of a cipher byte.
@@ -43,15 +56,14 @@ impl Cipher {
         ensures byte { result ≡ bit_xor cipher (self.old / 256) }
         ensures key { self.new ≡ next_key self.old cipher }
     {
-        let code = u32::from(cipher);
-        let plain = cipher ^ (self.key / 256) as u8;
-        let key = ((u32::from(self.key) + code) * 52_845 + 22_719) % 65_536;
-        self.key = key as u16;
+        let plain = cipher ^ high_byte(self.key);
+        let added = u32::from(cipher) * 52_845 + 22_719;
+        self.key = self.key.wrapping_mul(52_845).wrapping_add(added);
         plain
     }
 
     /// The plain bytes of two cipher bytes. The key after the second is made of the one before the
-    /// first, with the key's factor squared, so that two bytes wait for one product.
+    /// first, with the key's factor squared, so that two bytes wait for one product and one sum.
     #[inline(always)]
     #[tactic(auto, using(crate::proofs::Deciphering::key_from, crate::proofs::Deciphering::key_past))]
     fn pair(&mut self, first: u8, second: u8) -> (u8, u8)
@@ -59,14 +71,11 @@ impl Cipher {
         ensures second { result.1 ≡ bit_xor second (next_key self.old first / 256) }
         ensures key { self.new ≡ next_key (next_key self.old first) second }
     {
-        let sum = u32::from(self.key) + u32::from(first);
-        let middle = (sum * 52_845 + 22_719) % 65_536;
-        let last = (sum * 39_529 + (u32::from(second) * 52_845 + 54_290)) % 65_536;
-        let pair = (
-            first ^ (self.key / 256) as u8,
-            second ^ (middle / 256) as u8,
-        );
-        self.key = last as u16;
+        let added = u32::from(first) * 52_845 + 22_719;
+        let middle = self.key.wrapping_mul(52_845).wrapping_add(added);
+        let both = u32::from(first) * 39_529 + (u32::from(second) * 52_845 + 54_290);
+        let pair = (first ^ high_byte(self.key), second ^ high_byte(middle));
+        self.key = self.key.wrapping_mul(39_529).wrapping_add(both);
         pair
     }
 
@@ -98,7 +107,7 @@ impl Cipher {
         ensures byte { result ≡ bit_xor plain (self.old / 256) }
         ensures key { self.new ≡ next_key self.old result }
     {
-        let cipher = plain ^ (self.key / 256) as u8;
+        let cipher = plain ^ high_byte(self.key);
         self.byte(cipher);
         cipher
     }

@@ -1,6 +1,7 @@
 //! Commands of charstrings, by the bytes that spell them.
-ghost use Rattle.std.specs.Prelude.{◌≡◌, ◌≤◌, ◌<◌, ◌==◌, ◌-ℤ◌, pos, false, true, Ok, Some};
+ghost use Rattle.std.specs.Prelude.{◌≡◌, ◌≤◌, ◌<◌, ◌==◌, ◌+◌, ◌-ℤ◌, pos, false, true, Ok, Some};
 ghost use Rattle.std.specs.Prelude.{ℕ, List, take, drop, length, map, nat_eq, IfSome, IfOk};
+ghost use Rattle.std.specs.Prelude.{vec_len, vec_capacity};
 ghost use Rattle.std.specs.Map.{lookup};
 ghost use Rattle.t1_code.specs.Charstring.{AllFit, Fits32Bits};
 ghost use Rattle.t1_disassemble.specs.CommandWords.{command_word};
@@ -202,6 +203,29 @@ fn next_command<'a>(
     command_at(first, rest)
 }
 
+/// Adds the commands that a charstring spells to others, which have room for them, or some of them
+/// where its bytes aren't all commands; answers whether they are. It stands apart, so that its loop
+/// has nothing else to keep at hand.
+#[inline(never)]
+fn push_each(known: &[KnownCommand], others: &mut Vec<Command>, code: &[u8]) -> bool
+    requires { vec_len others.old + length code.now ≤ vec_capacity others.old }
+    ensures read { result ≡ true
+        → words_of code.now
+        ≡ Ok (map command_word (drop (length others.old.items) others.new.items)) }
+    ensures fits { AllFit (drop (length others.old.items) others.new.items) }
+    ensures front { take (length others.old.items) others.new.items ≡ others.old.items }
+{
+    let mut rest = code;
+    while let Some((first, after)) = rest.split_first() {
+        let Some((command, left)) = next_command(known, *first, after) else {
+            return false;
+        };
+        others.push_reserved(command);
+        rest = left;
+    }
+    true
+}
+
 /// Adds the commands that a charstring spells to others, or some of them where its bytes aren't all
 /// commands; answers whether they are.
 pub(crate) fn push_commands(
@@ -216,13 +240,5 @@ pub(crate) fn push_commands(
     ensures front { take (length others.old.items) others.new.items ≡ others.old.items }
 {
     others.reserve(code.len())?;
-    let mut rest = code;
-    while let Some((first, after)) = rest.split_first() {
-        let Some((command, left)) = next_command(known, *first, after) else {
-            return Ok(false);
-        };
-        others.push_reserved(command);
-        rest = left;
-    }
-    Ok(true)
+    Ok(push_each(known, others, code))
 }

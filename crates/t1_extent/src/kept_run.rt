@@ -19,7 +19,7 @@ use std::alloc::{AllocError, Global};
 use std::marker::Model;
 use t1_afm::BBox;
 use t1_code::is_standard_name;
-use t1_run::{Composite, Entered, Point, Run, Segment};
+use t1_run::{Composite, Entered, Point, Run, Segment, Segments};
 
 /// An outline of which some coordinates have fractions.
 #[derive(Drop)]
@@ -127,7 +127,7 @@ impl KeptRun {
         alloc: Global,
         name: &[u8],
         run: Run,
-        room: &mut Vec<Segment>,
+        room: &mut Segments,
     ) -> Result<KeptRun, AllocError>
         ensures kept { IfOk result (λ kept. kept ≡ kept_as name.now run) }
         ensures traced { IfOk result (λ kept. traces name.now kept ≡ true) }

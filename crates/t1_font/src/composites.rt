@@ -10,7 +10,7 @@ use t1_afm::{CompositeMetric, Text};
 fn composite_metric<'a>(glyph: &'a GlyphMetrics) -> Option<CompositeMetric<'a>>
     ensures { result ≡ composite_data glyph.now }
 {
-    let Some(parts) = &glyph.parts else {
+    let Some(parts) = glyph.parts.get() else {
         return None;
     };
     Some(CompositeMetric {

@@ -8,6 +8,7 @@ ghost use Rattle.t1_extent.specs.FoundRuns.{run_there};
 ghost use Rattle.t1_font.specs.MeasuredGlyphs.{glyph_metrics_at};
 ghost use Rattle.t1_font.specs.MetricsByRuns.{glyph_metrics_among, glyph_metrics_by};
 
+use crate::glyph_parts::GlyphParts;
 use crate::numbers::SubrNumbers;
 use std::alloc::Global;
 use t1_afm::{BBox, unite};
@@ -31,26 +32,27 @@ pub struct GlyphMetrics<'a> {
     /// The Subrs that its own run entered, ascending and each once.
     pub entered: SubrNumbers,
     /// The parts of a composite.
-    pub parts: Option<PlacedParts>,
+    pub parts: GlyphParts,
     /// The box around its outline, where it draws.
     pub bbox: Option<BBox>,
 }
 
 /// The parts of a composite, and how far its accent is moved.
-fn placed_parts(alloc: Global, run: &KeptRun) -> Result<Option<PlacedParts>, Refusal>
+fn placed_parts(alloc: Global, run: &KeptRun) -> Result<GlyphParts, Refusal>
     ensures { Gives (λ parts. parts) result
         (reported_at places.Nowhere
         (placed_parts_of run.now.drawing.bearing run.now.drawing.composite)) }
 {
     let Some(parts) = run.composite() else {
-        return Ok(None);
+        return Ok(GlyphParts::none());
     };
     let by = accent_move(&run.side_bearing(), parts)?;
-    Ok(Some(PlacedParts {
+    let placed = PlacedParts {
         base: Bytes::copied(alloc, parts.base.as_slice())?,
         accent: Bytes::copied(alloc, parts.accent.as_slice())?,
         by,
-    }))
+    };
+    Ok(GlyphParts::of(alloc, placed)?)
 }
 
 /// The run of a glyph, or its first fault.

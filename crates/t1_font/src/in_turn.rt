@@ -19,6 +19,7 @@ ghost use Rattle.t1_font.specs.RunCounts.{counted};
 
 use crate::compiler::Compiler;
 use crate::glyph_metrics::GlyphMetrics;
+use crate::glyph_parts::GlyphParts;
 use crate::numbers::SubrNumbers;
 use crate::runs::{Runs, kept_run_of};
 use crate::source_bodies::SourceBodies;
@@ -27,7 +28,7 @@ use std::alloc::{AllocError, Global};
 use t1_code::Command;
 use t1_extent::KeptRun;
 use t1_frac::{Code, Refusal, SourceText, Words};
-use t1_run::{Meter, Segment};
+use t1_run::{Meter, Segments};
 
 /// What is reported of a glyph at its turn.
 #[derive(Drop)]
@@ -56,7 +57,7 @@ fn plain_metrics<'a>(
         name: SourceText::borrowed(name),
         width: run.width(),
         entered: SubrNumbers::copied(alloc, run.entered())?,
-        parts: None,
+        parts: GlyphParts::none(),
         bbox: run.bbox(),
     })
 }
@@ -145,7 +146,7 @@ fn row_of<'a>(
 pub(crate) struct Scratch {
     standard: StandardNames,
     body: Vec<Command>,
-    room: Vec<Segment>,
+    room: Segments,
     meter: Meter,
 }
 
@@ -154,7 +155,7 @@ impl Scratch {
         Ok(Scratch {
             standard: StandardNames::new(alloc)?,
             body: Vec::new(alloc),
-            room: Vec::new(alloc),
+            room: Segments::new(alloc),
             meter: Meter::new(),
         })
     }

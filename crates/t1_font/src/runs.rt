@@ -15,7 +15,7 @@ use std::mem;
 use t1_code::Command;
 use t1_extent::{KeptRun, KeptRuns};
 use t1_frac::{Code, Refusal};
-use t1_run::{Bodies, Meter, Segment, StoredBodies, run_of_body};
+use t1_run::{Bodies, Meter, Segments, StoredBodies, run_of_body};
 
 /// The runs of some glyphs, each with its number, or its first fault, by the glyph's name, which is
 /// borrowed. Contracts see the list of names, each with its run or fault. The trace of a run is
@@ -102,7 +102,7 @@ pub(crate) fn kept_run_of<B: Bodies>(
     bodies: &B,
     name: &[u8],
     body: &[Command],
-    room: &mut Vec<Segment>,
+    room: &mut Segments,
     meter: &mut Meter,
 ) -> Result<Result<KeptRun, Code>, AllocError>
     requires { B.glyphs bodies.now name.now ≡ Some body.now }
@@ -114,7 +114,7 @@ pub(crate) fn kept_run_of<B: Bodies>(
     ensures after { IfOk result (λ kept. IsNumberedAfter meter.old (Some kept)) }
     ensures counted { meter.new ≡ counted meter.old 1 }
 {
-    let segments = mem::replace(room, Vec::new(alloc));
+    let segments = mem::replace(room, Segments::new(alloc));
     match run_of_body(alloc, bodies, body, segments, meter) {
         Ok(run) => Ok(Ok(KeptRun::of(alloc, name, run, room)?)),
         Err(Refusal::Fault(fault)) => Ok(Err(fault.code)),
@@ -127,7 +127,7 @@ fn kept_run<B: StoredBodies>(
     alloc: Global,
     bodies: &B,
     name: &[u8],
-    room: &mut Vec<Segment>,
+    room: &mut Segments,
     meter: &mut Meter,
 ) -> Result<Result<KeptRun, Code>, AllocError>
     requires { IsSome (B.glyphs bodies.now name.now) }
@@ -167,7 +167,7 @@ pub fn runs_of<'a, B: StoredBodies>(
     ensures want { OnErr result (CountsSome (length names.now) meter.old meter.new) }
 {
     let mut runs = Runs::new(alloc);
-    let mut room = Vec::new(alloc);
+    let mut room = Segments::new(alloc);
     for name in names {
         let kept = kept_run(alloc, bodies, name, &mut room, meter)?;
         runs.keep(name, kept)?;

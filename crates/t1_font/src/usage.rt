@@ -3,7 +3,8 @@ ghost use Rattle.std.specs.Prelude.{◌≡◌, ◌++◌, ◌∷◌, [], IfOk, On
 ghost use Rattle.t1_frac.specs.Ascii.{line_feed};
 ghost use Rattle.t1_font.specs.Usage.{entered_text, parts_text, usage_line, usage_table};
 
-use crate::glyph_metrics::{GlyphMetrics, PlacedParts};
+use crate::glyph_metrics::GlyphMetrics;
+use crate::glyph_parts::GlyphParts;
 use std::alloc::{AllocError, Global};
 use t1_parts::push_decimal;
 
@@ -28,10 +29,10 @@ fn push_subrs(text: &mut Vec<u8>, numbers: &[u16]) -> Result<(), AllocError>
 }
 
 /// Adds ` P BASE ; P ACCENT ;` for a composite.
-fn push_parts(text: &mut Vec<u8>, parts: &Option<PlacedParts>) -> Result<(), AllocError>
+fn push_parts(text: &mut Vec<u8>, parts: &GlyphParts) -> Result<(), AllocError>
     ensures { OnOk result (text.new.items ≡ text.old.items ++ parts_text parts.now) }
 {
-    let Some(parts) = parts else {
+    let Some(parts) = parts.get() else {
         return Ok(());
     };
     text.extend_from_slice(b" P ")?;

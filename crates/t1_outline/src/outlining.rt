@@ -11,7 +11,7 @@ ghost use Rattle.t1_outline.specs.Counting.{outline_runs, runs_within};
 
 use std::alloc::Global;
 use t1_frac::{Code, Refusal};
-use t1_run::{Meter, Segment, StoredBodies, join, run_of_body};
+use t1_run::{Meter, Segment, Segments, StoredBodies, join, run_of_body};
 
 /// The outline of a glyph in which composites nest so deep, or its first fault, at no place. The
 /// meter counts each glyph that is run; where an error ends it, some of them.
@@ -37,7 +37,7 @@ fn nested_outline<B: StoredBodies>(
         meter.new) }
 {
     let body = bodies.glyph(name).ok_or(Code::F45)?;
-    let run = run_of_body(alloc, bodies, body, Vec::new(alloc), meter)?;
+    let run = run_of_body(alloc, bodies, body, Segments::new(alloc), meter)?;
     let Some(parts) = run.composite() else {
         return Ok(Vec::from_slice(alloc, run.segments())?);
     };

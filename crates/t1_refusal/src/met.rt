@@ -8,7 +8,7 @@ ghost use Rattle.t1_refusal.specs.Bodies.{seen_of};
 use std::alloc::{AllocError, Global};
 use t1_chain::{Failure, failure_of};
 use t1_frac::{Bytes, Refusal};
-use t1_run::{Composite, Meter, StoredBodies, run_of_body};
+use t1_run::{Composite, Meter, Segments, StoredBodies, run_of_body};
 
 /// A glyph whose own run fails, and where.
 #[derive(Drop)]
@@ -52,7 +52,7 @@ fn parts_of<B: StoredBodies>(
         return Ok(None);
     };
     let mut meter = Meter::new();
-    match run_of_body(alloc, bodies, body, Vec::new(alloc), &mut meter) {
+    match run_of_body(alloc, bodies, body, Segments::new(alloc), &mut meter) {
         Ok(run) => {
             let (composite, _entered, _segments) = run.into_parts();
             Ok(composite)

@@ -31,7 +31,7 @@ state_of s = record {
   current = s.current;
   metric = s.metric;
   flex = option_map (λ before. record { before = before; recorded = s.recorded }) s.flex;
-  segments = s.segments.items;
+  segments = s.segments;
   steps = s.steps;
   entered = s.entered;
 }

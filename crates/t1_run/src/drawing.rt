@@ -1,6 +1,6 @@
 //! Moves, lines, curves and metrics.
 
-ghost use Rattle.std.specs.Prelude.{◌≡◌, [], ◌∷◌, ◌++◌, ◌≤◌, true, length, OnOk};
+ghost use Rattle.std.specs.Prelude.{◌≡◌, ◌≤◌, true, length};
 ghost use Rattle.t1_run.specs.Dispatch.{sets_point};
 ghost use Rattle.t1_run.specs.Machine.{state_of, going_on, answered, MakesStep};
 ghost use Rattle.t1_run.specs.Operands.{takes, topmost};
@@ -12,7 +12,6 @@ ghost use Rattle.t1_run.specs.Words.{rule, draws as draws_of};
 use crate::halt::Halt;
 use crate::outline::{Metric, Point, Segment};
 use crate::state::State;
-use std::alloc::AllocError;
 use t1_code::Command;
 use t1_frac::{Code, Frac};
 
@@ -24,19 +23,6 @@ pub fn moved(point: &Point, dx: &Frac, dy: &Frac) -> Result<Point, Code>
     let x = point.x.add(dx)?;
     let y = point.y.add(dy)?;
     Ok(Point { x, y })
-}
-
-/// Adds a segment. Room is made for it first, where there is none, so that it is written where it
-/// stays.
-#[inline(always)]
-fn add_segment(segments: &mut Vec<Segment>, segment: Segment) -> Result<(), AllocError>
-    ensures { OnOk result (segments.new.items ≡ segments.old.items ++ segment ∷ []) }
-{
-    if segments.len() == segments.capacity() {
-        segments.reserve(1)?;
-    }
-    segments.push_reserved(segment);
-    Ok(())
 }
 
 impl State {
@@ -60,7 +46,7 @@ impl State {
     {
         let start = self.current;
         let end = &moved(&start, &dx, &dy)?;
-        add_segment(&mut self.segments, Segment::Line(start, *end))?;
+        self.segments.add(Segment::Line(start, *end))?;
         self.current = *end;
         self.operands.clear();
         Ok(())
@@ -83,7 +69,7 @@ impl State {
         let one = moved(&start, &first.0, &first.1)?;
         let two = moved(&one, &second.0, &second.1)?;
         let end = &moved(&two, &third.0, &third.1)?;
-        add_segment(&mut self.segments, Segment::Curve(start, one, two, *end))?;
+        self.segments.add(Segment::Curve(start, one, two, *end))?;
         self.current = *end;
         self.operands.clear();
         Ok(())

@@ -38,6 +38,7 @@ mod results;
 mod returns;
 mod runner;
 mod seac;
+mod segments;
 mod state;
 mod step;
 
@@ -54,4 +55,5 @@ pub use plain::Plain;
 pub use recorded::Recorded;
 pub use runner::{run, run_of_body};
 pub use seac::{find_parts, standard_glyph};
+pub use segments::Segments;
 pub use state::{Control, State};

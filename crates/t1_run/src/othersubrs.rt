@@ -87,8 +87,9 @@ impl State {
         ensures steps { self.new.steps ≡ self.old.steps }
     {
         let before = self.flex.ok_or(Code::F41)?;
-        let curves = self.recorded.curves(before).ok_or(Code::F41)?;
-        self.segments.extend_from_slice(&curves)?;
+        let [first, second] = self.recorded.curves(before).ok_or(Code::F41)?;
+        self.segments.add(first)?;
+        self.segments.add(second)?;
         self.flex = None;
         self.results.clear();
         self.results.push(y);

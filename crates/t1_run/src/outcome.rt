@@ -6,6 +6,7 @@ ghost use Rattle.t1_run.specs.Composite.{HasStandardParts, IsWithin};
 
 use crate::entered::Entered;
 use crate::outline::{Composite, Metric, Point, Segment};
+use crate::segments::Segments;
 use std::marker::Model;
 
 /// What the run of a glyph's own body answered. It is made by `run` and `run_of_body` alone, and
@@ -13,7 +14,7 @@ use std::marker::Model;
 #[derive(Drop)]
 pub struct Run {
     pub(crate) metric: Metric,
-    pub(crate) segments: Vec<Segment>,
+    pub(crate) segments: Segments,
     pub(crate) composite: Option<Composite>,
     pub(crate) entered: Entered,
     pub(crate) steps: u32,
@@ -29,7 +30,7 @@ impl Model for Run {
       drawing = record {
         width = r.metric.width;
         bearing = r.metric.bearing;
-        segments = r.segments.items;
+        segments = r.segments;
         composite = r.composite;
         entered = r.entered;
         steps = r.steps;
@@ -40,7 +41,7 @@ impl Model for Run {
     ghost use Rattle.t1_run.specs.Composite.{HasStandardParts, IsWithin};
     ghost use Rattle.std.specs.Prelude.{All, IfSome};
 
-    ghost invariant = { λ r. All IsWithin r.segments.items × IfSome r.composite HasStandardParts };
+    ghost invariant = { λ r. All IsWithin r.segments × IfSome r.composite HasStandardParts };
 }
 
 impl Run {
@@ -83,10 +84,10 @@ impl Run {
 
     /// The parts of a glyph that ended by seac, the numbers of the Subrs that the run entered, and
     /// its segments. It takes no memory.
-    pub fn into_parts(self) -> (Option<Composite>, Entered, Vec<Segment>)
+    pub fn into_parts(self) -> (Option<Composite>, Entered, Segments)
         ensures parts { result.0 ≡ self.drawing.composite }
         ensures entered { result.1 ≡ self.drawing.entered }
-        ensures segments { result.2.items ≡ self.drawing.segments }
+        ensures segments { result.2 ≡ self.drawing.segments }
     {
         (self.composite, self.entered, self.segments)
     }

@@ -14,9 +14,10 @@ ghost use Rattle.t1_run.specs.State.{initial};
 use crate::bodies::{Bodies, StoredBodies};
 use crate::meter::Meter;
 use crate::outcome::Run;
-use crate::outline::{Composite, Metric, Segment};
+use crate::outline::{Composite, Metric};
 use crate::returns::ReturnStack;
 use crate::seac::find_parts;
+use crate::segments::Segments;
 use crate::state::{Control, State};
 use std::alloc::Global;
 use t1_code::Command;
@@ -99,7 +100,7 @@ fn run_words<'a, B: Bodies>(
 
 /// The run that ended in this state, with this metric.
 fn ended(state: State, metric: Metric, composite: Option<Composite>, serial: u64) -> Run
-    requires within { All IsWithin state.segments.items }
+    requires within { All IsWithin state.segments }
     requires parts { IfSome composite HasStandardParts }
     ensures drawing { drawing_of (Some metric) composite (state_of state) ≡ Ok result.drawing }
     ensures serial { result.serial ≡ serial }
@@ -125,10 +126,10 @@ fn run_body<B: Bodies>(
     alloc: Global,
     bodies: &B,
     body: &[Command],
-    segments: Vec<Segment>,
+    segments: Segments,
     serial: u64,
 ) -> Result<Run, Refusal>
-    requires { segments.items ≡ [] }
+    requires { segments ≡ [] }
     ensures drawing { Gives (λ run. run.drawing) result
         (reported_at Place.Nowhere
         (outcome_of
@@ -150,7 +151,7 @@ pub fn run_of_body<B: Bodies>(
     alloc: Global,
     bodies: &B,
     body: &[Command],
-    room: Vec<Segment>,
+    room: Segments,
     meter: &mut Meter,
 ) -> Result<Run, Refusal>
     ensures outcome { (name : List ℕ)
@@ -182,5 +183,5 @@ pub fn run<B: StoredBodies>(
     let Some(body) = bodies.glyph(name) else {
         unreachable!()
     };
-    run_of_body(alloc, bodies, body, Vec::new(alloc), meter)
+    run_of_body(alloc, bodies, body, Segments::new(alloc), meter)
 }

@@ -7,9 +7,10 @@ ghost use Rattle.t1_run.specs.State.{initial};
 
 use crate::entered::Entered;
 use crate::operands::Operands;
-use crate::outline::{Accent, Metric, Point, Segment};
+use crate::outline::{Accent, Metric, Point};
 use crate::recorded::Recorded;
 use crate::results::Results;
+use crate::segments::Segments;
 use std::alloc::{AllocError, Global};
 use t1_frac::Frac;
 
@@ -32,15 +33,15 @@ pub struct State {
     /// The current point before the flex that is open.
     pub flex: Option<Point>,
     pub recorded: Recorded,
-    pub segments: Vec<Segment>,
+    pub segments: Segments,
     pub steps: u32,
     pub entered: Entered,
 }
 
 impl State {
-    /// The state before the first word. Segments go into a vector with room for them.
-    pub fn new(alloc: Global, segments: Vec<Segment>) -> State
-        requires { segments.items ≡ [] }
+    /// The state before the first word. Segments go into the memory of these.
+    pub fn new(alloc: Global, segments: Segments) -> State
+        requires { segments ≡ [] }
         ensures { state_of result ≡ initial }
     {
         let zero = Frac::whole(0);

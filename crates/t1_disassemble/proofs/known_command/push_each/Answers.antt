@@ -1,10 +1,10 @@
-use Rattle.std.proofs.Common.{◌≡◌, ◌+◌, ◌≤◌, List, ℕ, [], ◌∷◌, ◌++◌, length, take, drop, Ok, ap, ◌∙◌, append-nil, subst, rules, arith}
+use Rattle.std.proofs.Common.{◌≡◌, ◌+◌, ◌≤◌, [], ◌∷◌, ◌++◌, length, drop, Ok, ap, ◌∙◌, append-nil, subst, rules, arith}
 use Rattle.std.proofs.lemmas.List.{nil_from_length}
 use Rattle.std.specs.Vec.{vec_len, vec_capacity}
 use Rattle.t1_disassemble.proofs.CommandLaws.{Read, one_read, more_fit, behind_more, front_more}
 use Rattle.t1_disassemble.proofs.WordLaws.{no_words}
 use Rattle.t1_disassemble.specs.Words.{words_of}
-use Rattle.t1_disassemble.proofs.known_command.push_commands.Goals as goal
+use Rattle.t1_disassemble.proofs.known_command.push_each.Goals as goal
 
 pub loop-first-preserved : goal.loop-first-preserved
 loop-first-preserved c =

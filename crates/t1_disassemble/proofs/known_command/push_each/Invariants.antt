@@ -2,7 +2,7 @@ use Rattle.std.proofs.Common.{◌≡◌, ◌+◌, ◌≤◌, length, take, drop}
 use Rattle.std.specs.Vec.{vec_len, vec_capacity}
 use Rattle.t1_code.specs.Charstring.{AllFit}
 use Rattle.t1_disassemble.proofs.CommandLaws.{Read}
-use Rattle.t1_disassemble.proofs.known_command.push_commands.Given as goal
+use Rattle.t1_disassemble.proofs.known_command.push_each.Given as goal
 
 -- the commands so far stand behind the others, and there is room for those that the bytes left may spell
 abbrev pub invariant-loop-first : goal.invariant-loop-first
