@@ -1,5 +1,5 @@
 //! The parts of a composite, beside what is measured of each glyph.
-ghost use Rattle.std.specs.Prelude.{◌≡◌, None, Some, IfOk, IfSome, MatchOption};
+ghost use Rattle.std.specs.Prelude.{◌≡◌, None, Some, IfOk, MatchOption};
 
 use crate::glyph_metrics::PlacedParts;
 use std::alloc::{AllocError, Global};

@@ -1,6 +1,7 @@
 //! Moves, lines, curves and metrics.
 
 ghost use Rattle.std.specs.Prelude.{◌≡◌, ◌≤◌, true, length};
+ghost use Rattle.t1_code.specs.declared.command.Command.TheVariants as Commands;
 ghost use Rattle.t1_run.specs.Dispatch.{sets_point};
 ghost use Rattle.t1_run.specs.Machine.{state_of, going_on, answered, MakesStep};
 ghost use Rattle.t1_run.specs.Operands.{takes, topmost};
@@ -101,8 +102,94 @@ impl State {
         self.operands.clear();
     }
 
-    /// A line or a curve.
+    /// A line in both directions.
     #[inline(always)]
+    pub fn rlineto(&mut self) -> Result<(), Halt>
+        requires enough { takes Commands.RLineTo ≤ length self.old.operands }
+        ensures reported { MakesStep going_on
+            (rule Commands.RLineTo (topmost (takes Commands.RLineTo) self.old.operands)
+            (state_of self.old))
+            result self.new }
+        ensures steps { self.new.steps ≡ self.old.steps }
+    {
+        let (dx, dy) = self.operands.top_two();
+        self.line_by(dx, dy)
+    }
+
+    /// A line in x.
+    #[inline(always)]
+    pub fn hlineto(&mut self) -> Result<(), Halt>
+        requires enough { takes Commands.HLineTo ≤ length self.old.operands }
+        ensures reported { MakesStep going_on
+            (rule Commands.HLineTo (topmost (takes Commands.HLineTo) self.old.operands)
+            (state_of self.old))
+            result self.new }
+        ensures steps { self.new.steps ≡ self.old.steps }
+    {
+        let dx = self.operands.top();
+        self.line_by(dx, Frac::whole(0))
+    }
+
+    /// A line in y.
+    #[inline(always)]
+    pub fn vlineto(&mut self) -> Result<(), Halt>
+        requires enough { takes Commands.VLineTo ≤ length self.old.operands }
+        ensures reported { MakesStep going_on
+            (rule Commands.VLineTo (topmost (takes Commands.VLineTo) self.old.operands)
+            (state_of self.old))
+            result self.new }
+        ensures steps { self.new.steps ≡ self.old.steps }
+    {
+        let dy = self.operands.top();
+        self.line_by(Frac::whole(0), dy)
+    }
+
+    /// A curve.
+    #[inline(always)]
+    pub fn rrcurveto(&mut self) -> Result<(), Halt>
+        requires enough { takes Commands.RRCurveTo ≤ length self.old.operands }
+        ensures reported { MakesStep going_on
+            (rule Commands.RRCurveTo (topmost (takes Commands.RRCurveTo) self.old.operands)
+            (state_of self.old))
+            result self.new }
+        ensures steps { self.new.steps ≡ self.old.steps }
+    {
+        let [dx1, dy1, dx2, dy2, dx3, dy3] = self.operands.topmost::<6>();
+        self.curve_by((dx1, dy1), (dx2, dy2), (dx3, dy3))
+    }
+
+    /// A curve that begins in y and ends in x.
+    #[inline(always)]
+    pub fn vhcurveto(&mut self) -> Result<(), Halt>
+        requires enough { takes Commands.VHCurveTo ≤ length self.old.operands }
+        ensures reported { MakesStep going_on
+            (rule Commands.VHCurveTo (topmost (takes Commands.VHCurveTo) self.old.operands)
+            (state_of self.old))
+            result self.new }
+        ensures steps { self.new.steps ≡ self.old.steps }
+    {
+        let zero = Frac::whole(0);
+        let [dy1, dx2, dy2, dx3] = self.operands.topmost::<4>();
+        self.curve_by((zero, dy1), (dx2, dy2), (dx3, zero))
+    }
+
+    /// A curve that begins in x and ends in y.
+    #[inline(always)]
+    pub fn hvcurveto(&mut self) -> Result<(), Halt>
+        requires enough { takes Commands.HVCurveTo ≤ length self.old.operands }
+        ensures reported { MakesStep going_on
+            (rule Commands.HVCurveTo (topmost (takes Commands.HVCurveTo) self.old.operands)
+            (state_of self.old))
+            result self.new }
+        ensures steps { self.new.steps ≡ self.old.steps }
+    {
+        let zero = Frac::whole(0);
+        let [dx1, dx2, dy2, dy3] = self.operands.topmost::<4>();
+        self.curve_by((dx1, zero), (dx2, dy2), (zero, dy3))
+    }
+
+    /// A line or a curve. It stands apart: the commands that fonts have most are told apart before.
+    #[inline(never)]
     pub fn draw(&mut self, command: Command) -> Result<(), Halt>
         requires kind { draws_of command ≡ true }
         requires enough { takes command ≤ length self.old.operands }
@@ -111,32 +198,13 @@ impl State {
             result self.new }
         ensures steps { self.new.steps ≡ self.old.steps }
     {
-        let zero = Frac::whole(0);
         match command {
-            Command::RLineTo => {
-                let (dx, dy) = self.operands.top_two();
-                self.line_by(dx, dy)
-            }
-            Command::HLineTo => {
-                let dx = self.operands.top();
-                self.line_by(dx, zero)
-            }
-            Command::VLineTo => {
-                let dy = self.operands.top();
-                self.line_by(zero, dy)
-            }
-            Command::RRCurveTo => {
-                let [dx1, dy1, dx2, dy2, dx3, dy3] = self.operands.topmost::<6>();
-                self.curve_by((dx1, dy1), (dx2, dy2), (dx3, dy3))
-            }
-            Command::VHCurveTo => {
-                let [dy1, dx2, dy2, dx3] = self.operands.topmost::<4>();
-                self.curve_by((zero, dy1), (dx2, dy2), (dx3, zero))
-            }
-            Command::HVCurveTo => {
-                let [dx1, dx2, dy2, dy3] = self.operands.topmost::<4>();
-                self.curve_by((dx1, zero), (dx2, dy2), (zero, dy3))
-            }
+            Command::RLineTo => self.rlineto(),
+            Command::HLineTo => self.hlineto(),
+            Command::VLineTo => self.vlineto(),
+            Command::RRCurveTo => self.rrcurveto(),
+            Command::VHCurveTo => self.vhcurveto(),
+            Command::HVCurveTo => self.hvcurveto(),
             _ => unreachable!(),
         }
     }

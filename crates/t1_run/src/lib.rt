@@ -2,10 +2,10 @@
 //!
 //! For users: a font as [`Bodies`] or [`StoredBodies`], for which [`Plain`] may stand; a [`Meter`];
 //! [`run`], and a [`Run`] with its [`Segment`]s of [`Point`]s and its [`Composite`]; [`join`]. For
-//! the crates above: [`run_of_body`], which runs a body that the font needn't have stored,
-//! [`Entered`], and the moves of accents, points and segments; [`State`] with [`Control`], [`Halt`]
-//! and [`find_parts`], by which a body is run word by word, to see at which word it fails, and
-//! [`takes`], [`standard_glyph`] and [`Recorded`], by which is told why.
+//! the crates above: [`run_of_body`], which runs a body that needn't be stored, [`Segments`] that
+//! serve one run after another, [`Entered`], and the moves of accents, points and segments;
+//! [`State`] with [`Control`], [`Halt`] and [`find_parts`], by which a body is run word by word, to
+//! see where it fails, and [`takes`], [`standard_glyph`] and [`Recorded`], by which is told why.
 //!
 //! What is proved, beside what the comment at each call says:
 //!

@@ -258,18 +258,6 @@ impl State {
         self.carry_out(command)
     }
 
-    /// The same for a command that draws.
-    #[inline(always)]
-    fn execute_drawing(&mut self, command: Command) -> Result<(), Halt>
-        requires kind { draws_of command ≡ true }
-        ensures reported { MakesStep going_on (execute_of command (state_of self.old)) result
-            self.new }
-        ensures steps { self.new.steps ≡ self.old.steps }
-    {
-        self.test(command)?;
-        self.draw(command)
-    }
-
     /// The same for a command that sets the current point and draws nothing.
     #[inline(always)]
     fn execute_placing(&mut self, command: Command) -> Result<(), Halt>
@@ -288,7 +276,8 @@ impl State {
             result self.new }
         ensures steps { self.new.steps ≡ self.old.steps }
     {
-        self.execute_drawing(Command::RLineTo)
+        self.test(Command::RLineTo)?;
+        self.rlineto()
     }
 
     #[inline(never)]
@@ -297,7 +286,8 @@ impl State {
             result self.new }
         ensures steps { self.new.steps ≡ self.old.steps }
     {
-        self.execute_drawing(Command::HLineTo)
+        self.test(Command::HLineTo)?;
+        self.hlineto()
     }
 
     #[inline(never)]
@@ -306,7 +296,8 @@ impl State {
             result self.new }
         ensures steps { self.new.steps ≡ self.old.steps }
     {
-        self.execute_drawing(Command::VLineTo)
+        self.test(Command::VLineTo)?;
+        self.vlineto()
     }
 
     #[inline(never)]
@@ -315,7 +306,8 @@ impl State {
             result self.new }
         ensures steps { self.new.steps ≡ self.old.steps }
     {
-        self.execute_drawing(Command::RRCurveTo)
+        self.test(Command::RRCurveTo)?;
+        self.rrcurveto()
     }
 
     #[inline(never)]
@@ -324,7 +316,8 @@ impl State {
             result self.new }
         ensures steps { self.new.steps ≡ self.old.steps }
     {
-        self.execute_drawing(Command::VHCurveTo)
+        self.test(Command::VHCurveTo)?;
+        self.vhcurveto()
     }
 
     #[inline(never)]
@@ -333,7 +326,8 @@ impl State {
             result self.new }
         ensures steps { self.new.steps ≡ self.old.steps }
     {
-        self.execute_drawing(Command::HVCurveTo)
+        self.test(Command::HVCurveTo)?;
+        self.hvcurveto()
     }
 
     #[inline(never)]

@@ -1,5 +1,5 @@
 //! The bodies of a font's source, compiled by the font's charstrings.
-ghost use Rattle.std.specs.Prelude.{◌≡◌, IfErr};
+ghost use Rattle.std.specs.Prelude.{◌≡◌, MatchResult};
 ghost use Rattle.t1_session.specs.declared.error.ServeError.TheVariants.{Memory};
 
 use std::alloc::Global;
@@ -16,9 +16,10 @@ pub struct FontBodies<'a> {
 }
 
 impl<'a> FontBodies<'a> {
-    /// Those of this source.
+    /// Those of this source, of which none was compiled.
     pub fn of(alloc: Global, text: &'a CodedText) -> Result<FontBodies<'a>, ServeError>
-        ensures { IfErr result (λ error. error ≡ Memory) }
+        ensures { MatchResult result (λ made. made.bodies ≡ (text.now, 0))
+            (λ error. error ≡ Memory) }
     {
         Ok(FontBodies {
             bodies: CodedBodies::of(alloc, text)?,
