@@ -19,13 +19,13 @@ pub struct SubrRecord {
     pub users: Names,
 }
 
-/// A glyph: its compiled body, its own run, the box of its outline where it draws, and the
-/// composites on it.
+/// A glyph: the box of its outline where it draws, its compiled body, its own run, and the
+/// composites on it. What a line of an AFM file says stands at the front, near each other.
 #[derive(Drop)]
 pub struct GlyphRecord {
+    pub bbox: Option<BBox>,
     pub body: Body,
     pub run: KeptRun,
-    pub bbox: Option<BBox>,
     pub users: Names,
 }
 

@@ -13,7 +13,7 @@ ghost use Rattle.t1_font.specs.Bodies.{subr_in};
 ghost use Rattle.t1_font.specs.KeptBodies.{subr_body_kept, SameBodies};
 
 use indexmap::IndexMap;
-use std::alloc::Global;
+use std::alloc::{AllocError, Global};
 use t1_code::{Body, compiled_glyph, compiled_subr};
 use t1_frac::{Place, Refusal, Words};
 use t1_parts::Items;
@@ -43,11 +43,39 @@ fn add_subr(
     Ok(())
 }
 
+/// How many bytes a name mostly has at most.
+const NAME_ROOM: usize = 24;
+
+/// Empty names, for so many bodies. They are made before the bodies, so that they stand side by
+/// side in memory, and not each behind a body.
+fn empty_names(alloc: Global, count: usize) -> Result<Vec<Vec<u8>>, AllocError> {
+    let mut names = Vec::new(alloc);
+    names.reserve(count)?;
+    for _name in 0..count {
+        names.push(Vec::with_capacity(alloc, NAME_ROOM)?)?;
+    }
+    Ok(names)
+}
+
+/// A name, where an empty one stands, if there is one.
+fn body_name(alloc: Global, empty: &mut Vec<Vec<u8>>, name: &[u8]) -> Result<Vec<u8>, AllocError>
+    ensures { IfOk result (λ copy. copy.items ≡ name.now) }
+{
+    let mut copy = match empty.pop() {
+        Some(empty) => empty,
+        None => Vec::new(alloc),
+    };
+    copy.clear();
+    copy.extend_from_slice(name)?;
+    Ok(copy)
+}
+
 /// Adds the body of a glyph, where there is none of its name.
 #[tactic(auto, unfolding(crate::specs::Bodies::words_check))]
 fn add_glyph(
     alloc: Global,
     glyphs: &mut IndexMap<Vec<u8>, Body>,
+    empty: &mut Vec<Vec<u8>>,
     name: &[u8],
     words: &Words,
 ) -> Result<(), Refusal>
@@ -62,7 +90,7 @@ fn add_glyph(
     if glyphs.contains_key(name) {
         return Ok(());
     }
-    glyphs.insert(Vec::from_slice(alloc, name)?, body)?;
+    glyphs.insert(body_name(alloc, empty, name)?, body)?;
     Ok(())
 }
 
@@ -71,6 +99,7 @@ fn add_body(
     alloc: Global,
     subrs: &mut IndexMap<u16, Body>,
     glyphs: &mut IndexMap<Vec<u8>, Body>,
+    empty: &mut Vec<Vec<u8>>,
     item: &Item,
 ) -> Result<(), Refusal>
     ensures checked { Gives (λ x. x) result (body_check item.now) }
@@ -85,7 +114,7 @@ fn add_body(
 {
     match item {
         Item::Subr(number, words, _) => add_subr(alloc, subrs, *number, words),
-        Item::Glyph(name, words, _) => add_glyph(alloc, glyphs, name.as_slice(), words),
+        Item::Glyph(name, words, _) => add_glyph(alloc, glyphs, empty, name.as_slice(), words),
         Item::Plain(_) => Ok(()),
         Item::Section(_, _, _) => Ok(()),
     }
@@ -107,8 +136,9 @@ fn add_bodies(
     ensures glyphs { OnOk result
         ((g : List ℕ) → glyph_body_kept glyphs.new.entries g ≡ glyph_among items.now g) }
 {
+    let mut empty = empty_names(alloc, items.glyphs_needed() as usize)?;
     for item in items.iter().alone() {
-        add_body(alloc, subrs, glyphs, item)?;
+        add_body(alloc, subrs, glyphs, &mut empty, item)?;
     }
     Ok(())
 }
