@@ -1,2 +1,3 @@
 pub mod JoinLaws
 pub mod OrderLaws
+pub mod SharedLaws

@@ -1,14 +1,22 @@
 //! A bucket of elements.
 
 ghost use Rattle.std.specs.Prelude.{◌≡◌, ◌<◌, ◌≤◌, ◌-◌, ◌∷◌, ◌++◌, [], length, true, slice_set};
-ghost use Rattle.std.specs.Prelude.{IfOk, OnOk, OnErr};
+ghost use Rattle.std.specs.Prelude.{IfOk, OnOk, OnErr, map};
 ghost use Rattle.std.specs.List.{insert, remove, slice_index_or};
 
 use std::alloc::{AllocError, Global};
 use std::marker::Model;
 
-/// How many elements stand in a bucket before it is cut in two.
-const FULL: usize = 512;
+/// How many elements stand in a bucket before it is cut in two. A bucket is copied where it is
+/// changed while another copy of the list has it.
+const FULL: usize = 128;
+
+/// What can be copied.
+pub trait Copied: Drop {
+    /// A copy.
+    fn copied(&self, alloc: Global) -> Result<Self, AllocError>
+        ensures { IfOk result (λ copy. copy ≡ self.now) };
+}
 
 /// One or more elements. Contracts see their list.
 #[derive(Drop)]
@@ -57,16 +65,41 @@ impl<T> Bucket<T> {
     {
         &self.elements[self.elements.len() - 1]
     }
+}
 
-    /// Takes the back half off. Where memory runs out, nothing has changed.
-    pub(crate) fn split(&mut self) -> Result<Bucket<T>, AllocError>
-        requires { 1 < length self.old }
-        ensures ok { IfOk result (λ back. self.new ++ back ≡ self.old) }
-        ensures err { OnErr result (self.new ≡ self.old) }
+/// Copies of some elements.
+fn copies_of<T: Copied>(alloc: Global, elements: &[T]) -> Result<Vec<T>, AllocError>
+    ensures { IfOk result (λ copies. copies.items ≡ elements.now) }
+{
+    let mut copies = Vec::with_capacity(alloc, elements.len())?;
+    for element in elements {
+        copies.push(element.copied(alloc)?)?;
+    }
+    Ok(copies)
+}
+
+impl<T: Copied> Clone for Bucket<T> {
+    ghost is_clone = { λ bucket copy. copy ≡ bucket };
+
+    fn clone(&self) -> Result<Bucket<T>, AllocError> {
+        let alloc = *self.elements.allocator();
+        let _len = self.len();
+        let elements = copies_of(alloc, self.elements.as_slice())?;
+        Ok(Bucket { elements })
+    }
+}
+
+impl<T: Copied> Bucket<T> {
+    /// Copies of the two halves.
+    pub(crate) fn halves(&self, alloc: Global) -> Result<(Bucket<T>, Bucket<T>), AllocError>
+        requires { 1 < length self.now }
+        ensures { IfOk result (λ halves. halves.0 ++ halves.1 ≡ self.now) }
     {
         let half = self.elements.len() / 2;
-        let elements = self.elements.split_off(half)?;
-        Ok(Bucket { elements })
+        let (front, back) = self.elements.as_slice().split_at(half);
+        let front = copies_of(alloc, front)?;
+        let back = copies_of(alloc, back)?;
+        Ok((Bucket { elements: front }, Bucket { elements: back }))
     }
 }
 
@@ -95,15 +128,6 @@ impl<T: Drop> Bucket<T> {
         ensures err { OnErr result (self.new ≡ self.old) }
     {
         self.elements.insert(at, element)?;
-        Ok(())
-    }
-
-    /// Adds an element at the end. Where memory runs out, nothing has changed.
-    pub(crate) fn push(&mut self, element: T) -> Result<(), AllocError>
-        ensures ok { OnOk result (self.new ≡ self.old ++ element ∷ []) }
-        ensures err { OnErr result (self.new ≡ self.old) }
-    {
-        self.elements.push(element)?;
         Ok(())
     }
 

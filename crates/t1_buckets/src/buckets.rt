@@ -1,25 +1,28 @@
 //! A list whose elements stand in buckets.
 
-ghost use Rattle.std.specs.Prelude.{◌≡◌, ◌<◌, ◌≤◌, ◌∷◌, ◌++◌, [], length, slice_set, OnOk, OnErr};
+ghost use Rattle.std.specs.Prelude.{◌≡◌, ◌<◌, ◌≤◌, ◌∷◌, ◌++◌, [], length, slice_set};
+ghost use Rattle.std.specs.Prelude.{IfOk, OnOk, OnErr};
 ghost use Rattle.std.specs.Fn.{ComputesKey};
 ghost use Rattle.std.specs.List.{insert, remove, slice_index_or};
 ghost use Rattle.std.specs.List.Sorted.{IsBinarySearchResult, IsSearchInRange};
 ghost use Rattle.std.specs.declared.cmp.Ordering.{Ordering};
 
-use crate::bucket::Bucket;
+use crate::bucket::{Bucket, Copied};
 use crate::buckets_iter::BucketsIter;
 use crate::places::place_of;
 use crate::{edits, search};
 use std::alloc::{AllocError, Global};
 use std::cmp::Ordering;
 use std::marker::Model;
+use std::rc::Rc;
 
 /// Elements in their order. One is found, put in or taken out by a look at the lengths of the
-/// buckets and by what its own bucket has. Contracts see the list of the elements.
+/// buckets and by what its own bucket has. A copy shares the buckets until one of them is changed.
+/// Contracts see the list of the elements.
 #[derive(Drop)]
 pub struct Buckets<T> {
     alloc: Global,
-    buckets: Vec<Bucket<T>>,
+    buckets: Vec<Rc<Bucket<T>>>,
     len: usize,
 }
 
@@ -28,11 +31,11 @@ impl<T> Model for Buckets<T> {
 
     ghost Value = { List T };
 
-    ghost use Rattle.t1_buckets.specs.Buckets.{buckets_joined};
+    ghost use Rattle.t1_buckets.specs.Buckets.{shared_joined};
 
-    ghost view = { λ buckets. buckets_joined buckets.buckets.items };
+    ghost view = { λ buckets. shared_joined buckets.buckets.items };
 
-    ghost invariant = { λ buckets. buckets.len ≡ length (buckets_joined buckets.buckets.items) };
+    ghost invariant = { λ buckets. buckets.len ≡ length (shared_joined buckets.buckets.items) };
 }
 
 impl<T> Buckets<T> {
@@ -85,12 +88,28 @@ impl<T> Buckets<T> {
 }
 
 impl<T: Drop> Buckets<T> {
-    /// Puts an element in the place of another.
-    pub fn set(&mut self, at: usize, element: T)
-        requires { at < length self.old }
-        ensures { self.new ≡ slice_set self.old at element }
+    /// A copy, which shares the buckets.
+    pub fn copied(&self) -> Result<Buckets<T>, AllocError>
+        ensures { IfOk result (λ copy. copy ≡ self.now) }
     {
-        edits::set(&mut self.buckets, at, element);
+        let len = self.len;
+        Ok(Buckets {
+            alloc: self.alloc,
+            buckets: edits::again(self.alloc, self.buckets.as_slice())?,
+            len,
+        })
+    }
+}
+
+impl<T: Copied> Buckets<T> {
+    /// Puts an element in the place of another. Where memory runs out, nothing has changed.
+    pub fn set(&mut self, at: usize, element: T) -> Result<(), AllocError>
+        requires { at < length self.old }
+        ensures ok { OnOk result (self.new ≡ slice_set self.old at element) }
+        ensures err { OnErr result (self.new ≡ self.old) }
+    {
+        edits::set(&mut self.buckets, at, element)?;
+        Ok(())
     }
 
     /// Puts an element in. Where memory runs out, nothing has changed.
@@ -116,12 +135,14 @@ impl<T: Drop> Buckets<T> {
         self.insert(end, element)
     }
 
-    /// Takes an element out. It takes no memory.
-    pub fn remove(&mut self, at: usize)
+    /// Takes an element out. Where memory runs out, nothing has changed.
+    pub fn remove(&mut self, at: usize) -> Result<(), AllocError>
         requires { at < length self.old }
-        ensures { self.new ≡ remove self.old at }
+        ensures ok { OnOk result (self.new ≡ remove self.old at) }
+        ensures err { OnErr result (self.new ≡ self.old) }
     {
-        edits::remove(&mut self.buckets, at);
+        edits::remove(&mut self.buckets, at)?;
         self.len -= 1;
+        Ok(())
     }
 }

@@ -1,10 +1,11 @@
 //! The elements that are left, one after another.
 
 ghost use Rattle.std.specs.Prelude.{◌≡◌};
-ghost use Rattle.t1_buckets.specs.Buckets.{buckets_joined};
+ghost use Rattle.t1_buckets.specs.Buckets.{shared_joined};
 
 use crate::bucket::Bucket;
 use std::marker::Model;
+use std::rc::Rc;
 use std::slice;
 
 /// The elements that are left, one after another: some of a bucket, and those of further buckets.
@@ -12,23 +13,23 @@ use std::slice;
 #[derive(Drop)]
 pub struct BucketsIter<'b, T> {
     front: Option<&'b [T]>,
-    buckets: slice::Iter<'b, Bucket<T>>,
+    buckets: slice::Iter<'b, Rc<Bucket<T>>>,
 }
 
 impl<'b, T> Model for BucketsIter<'b, T> {
     ghost use Rattle.std.specs.Prelude.{List, ◌++◌};
-    ghost use Rattle.t1_buckets.specs.Buckets.{buckets_joined};
+    ghost use Rattle.t1_buckets.specs.Buckets.{shared_joined};
     ghost use Rattle.t1_buckets.specs.BucketPlaces.{in_front};
 
     ghost Value = { List T };
 
-    ghost view = { λ left. in_front left.front ++ buckets_joined left.buckets.rest.now };
+    ghost view = { λ left. in_front left.front ++ shared_joined left.buckets.rest.now };
 }
 
 impl<'b, T> BucketsIter<'b, T> {
     /// The elements of some buckets.
-    pub(crate) fn over(buckets: &'b [Bucket<T>]) -> Self
-        ensures { result ≡ buckets_joined buckets.now }
+    pub(crate) fn over(buckets: &'b [Rc<Bucket<T>>]) -> Self
+        ensures { result ≡ shared_joined buckets.now }
     {
         BucketsIter {
             front: None,

@@ -4,12 +4,13 @@ ghost use Rattle.std.specs.Prelude.{◌≡◌, ◌≤◌, length};
 ghost use Rattle.std.specs.Fn.{ComputesKey};
 ghost use Rattle.std.specs.List.Sorted.{IsBinarySearchResult, IsSearchInRange};
 ghost use Rattle.std.specs.declared.cmp.Ordering.{Ordering};
-ghost use Rattle.t1_buckets.specs.Buckets.{buckets_joined};
+ghost use Rattle.t1_buckets.specs.Buckets.{lists_of, shared_joined};
 ghost use Rattle.t1_buckets.specs.BucketPlaces.{EndsBefore, IsAfter, IsUpTo};
 
 use crate::bucket::Bucket;
 use crate::places::len_before;
 use std::cmp::Ordering;
+use std::rc::Rc;
 
 /// Whether an order answers `Less` of the last element of a bucket.
 fn ends_before<T, F: FnMut(&T) -> Ordering>(bucket: &Bucket<T>, order: &mut F) -> bool
@@ -23,15 +24,15 @@ fn ends_before<T, F: FnMut(&T) -> Ordering>(bucket: &Bucket<T>, order: &mut F) -
 }
 
 /// The index of the first bucket of whose last element the order doesn't answer `Less`.
-fn bucket_of<T, F: FnMut(&T) -> Ordering>(buckets: &[Bucket<T>], order: &mut F) -> usize
+fn bucket_of<T, F: FnMut(&T) -> Ordering>(buckets: &[Rc<Bucket<T>>], order: &mut F) -> usize
     requires { F.IsAlwaysCallable order.old }
     ensures callable { F.IsAlwaysCallable order.new }
     ensures within { result ≤ length buckets.now }
     ensures answer { (by : T → Ordering)
         → ComputesKey F.FnMut by order.old
         → ComputesKey F.FnMut by order.new
-        × IsAfter by buckets.now result
-        × IsUpTo by buckets.now result }
+        × IsAfter by (lists_of buckets.now) result
+        × IsUpTo by (lists_of buckets.now) result }
 {
     let mut first = 0;
     let mut end = buckets.len();
@@ -48,16 +49,16 @@ fn bucket_of<T, F: FnMut(&T) -> Ordering>(buckets: &[Bucket<T>], order: &mut F) 
 
 /// Searches some buckets, which have so many elements, as the search of a slice does.
 pub(crate) fn binary_search_by<T, F: FnMut(&T) -> Ordering>(
-    buckets: &[Bucket<T>],
+    buckets: &[Rc<Bucket<T>>],
     len: usize,
     mut order: F,
 ) -> Result<usize, usize>
     requires callable { F.IsAlwaysCallable order }
-    requires len { len ≡ length (buckets_joined buckets.now) }
-    ensures bound { IsSearchInRange result (length (buckets_joined buckets.now)) }
+    requires len { len ≡ length (shared_joined buckets.now) }
+    ensures bound { IsSearchInRange result (length (shared_joined buckets.now)) }
     ensures position { (by : T → Ordering)
         → ComputesKey F.FnMut by order
-        → IsBinarySearchResult by (buckets_joined buckets.now) result }
+        → IsBinarySearchResult by (shared_joined buckets.now) result }
 {
     let index = bucket_of(buckets, &mut order);
     if index == buckets.len() {

@@ -22,7 +22,7 @@ use Rattle.t1_charstrings.specs.Sums.{has_key, item_at, section_line, section_li
 
 -- ---- items that don't have the key
 
-turned : {Q : Type 0} (eq : Q → Q → Bool) → Distinguishes eq → (a b : Q) → eq a b ≡ false → eq b a ≡ false
+pub turned : {Q : Type 0} (eq : Q → Q → Bool) → Distinguishes eq → (a b : Q) → eq a b ≡ false → eq b a ≡ false
 turned eq t a b off = by (eq b a) refl where
   by : (c : Bool) → eq b a ≡ c → c ≡ false
   by true on = let never : true ≡ false = sym (t.itself a) ∙ ap (eq a) (sym (t.same b a on)) ∙ off in absurd (cc)
@@ -97,7 +97,7 @@ module _ (key : Key) (entry : Option KeptCharstring) (old new : Charstrings) (se
 
 -- ---- in a source that is kept an entry's key stands once
 
-key-first : (key : Key) (earlier : List Item) (i : Item) → Stands earlier i → has_key key i ≡ true → list_any (has_key key) earlier ≡ false
+pub key-first : (key : Key) (earlier : List Item) (i : Item) → Stands earlier i → has_key key i ≡ true → list_any (has_key key) earlier ≡ false
 key-first key earlier (items.Plain l) h on = none key on where
   none : (key : Key) → has_key key (items.Plain l) ≡ true → list_any (has_key key) earlier ≡ false
   none (Subr n) on = absurd (cc)
@@ -115,11 +115,11 @@ plain-none : (key : Key) (l : List ℕ) → has_key key (items.Plain l) ≡ fals
 plain-none (Subr n) l = refl
 plain-none (Glyph g) l = refl
 
-last-any : (test : Item → Bool) (a : List Item) (i : Item) (b : Bool) → list_any test a ≡ b → list_any test (a ++ i ∷ []) ≡ (b || (test i || false))
+pub last-any : (test : Item → Bool) (a : List Item) (i : Item) (b : Bool) → list_any test a ≡ b → list_any test (a ++ i ∷ []) ≡ (b || (test i || false))
 last-any test a i b e = list_any-append test a (i ∷ []) ∙ ap (λ c. c || (test i || false)) e
 
 -- after an item of the key none has it
-none-later : (key : Key) (earlier is : List Item) (last : List ℕ) → list_any (has_key key) earlier ≡ true → Stand earlier is
+pub none-later : (key : Key) (earlier is : List Item) (last : List ℕ) → list_any (has_key key) earlier ≡ true → Stand earlier is
     → list_any (has_key key) (is ++ items.Plain last ∷ []) ≡ false
 none-later key earlier [] last there h = ap (λ b. b || false) (plain-none key last)
 none-later key earlier (i ∷ is) last there h =

@@ -33,7 +33,7 @@ use Rattle.t1_charstrings.proofs.Texts.{text_by_is, Serves}
 
 module _ (keys : List Key) (s made : SourceParts) (c : Charstrings) (batch : IsBatchOf keys s made c) where
   -- the charstrings of the entries that weren't edited stay
-  old-stays : (k : Key) → list_any (key_eq k) keys ≡ false → charstring_at c k ≡ option_map (encrypted (lead made) k) (body_at (bodies made.items) k)
+  pub old-stays : (k : Key) → list_any (key_eq k) keys ≡ false → charstring_at c k ≡ option_map (encrypted (lead made) k) (body_at (bodies made.items) k)
   old-stays k off =
       batch.0.kept.each k
       ∙ ap (option_map (encrypted (lead s) k)) (at-same (bodies s.items) (bodies made.items) k (batch.0.same.same k apart))

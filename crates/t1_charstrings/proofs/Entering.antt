@@ -70,7 +70,7 @@ here k i is b h = first-body k i is ∙ ap (λ r. option_or r (body_at (bodies i
 following : (k : Key) (i : Item) (is js : List Item) → body_at (bodies is) k ≡ body_at (bodies js) k → body_at (bodies (i ∷ is)) k ≡ body_at (bodies (i ∷ js)) k
 following k i is js h = first-body k i is ∙ ap (option_or (body_in k i)) h ∙ sym (first-body k i js)
 
-none-there : (k : Key) (is : List Item) → list_any (has_key k) is ≡ false → body_at (bodies is) k ≡ None
+pub none-there : (k : Key) (is : List Item) → list_any (has_key k) is ≡ false → body_at (bodies is) k ≡ None
 none-there (Subr n) [] h = refl
 none-there (Glyph g) [] h = refl
 none-there k (i ∷ is) h = let h' = or_parts (has_key k i) (list_any (has_key k) is) h in past k i is h'.0 ∙ none-there k is h'.1

@@ -1,6 +1,7 @@
 pub mod Adding
 mod AloneLaws
 pub mod Batches
+mod BesideLaws
 pub mod ChangedLengths
 pub mod Entered
 pub mod Entering
@@ -8,7 +9,9 @@ pub mod Filed
 pub mod Gathered
 mod GlyphCounts
 pub mod Inserting
+mod KeySums
 pub mod MadeItems
+mod Parts
 pub mod Readying
 mod SectionFrontLaws
 pub mod Texts

@@ -1,6 +1,5 @@
 -- The items of a source that edits make, in three parts.
 use Rattle.std.proofs.Common.{◌≡◌, ◌-◌, ◌+◌, ◌^◌, min, ℕ, true, cond, List, [], ◌∷◌, ◌++◌, map, length, append_assoc, length-append, refl, sym, ap, subst, ◌∙◌, Option, None, Some, Ok, Err, arith}
-use Rattle.std.specs.Prelude.{IfSome}
 use Rattle.std.specs.Option.{option_map, option_or}
 use Rattle.t1_frac.specs.declared.fault.Refusal.{Refusal}
 use Rattle.t1_frac.specs.declared.fault.Refusal.TheVariants as refusals
@@ -8,7 +7,6 @@ use Rattle.t1_frac.specs.Outcome.{Refuses, ◌>>=◌, fault_at}
 use Rattle.t1_frac.specs.declared.fault.Code.TheVariants.{F23}
 use Rattle.t1_frac.specs.declared.fault.Place.TheVariants.{Nowhere}
 use Rattle.t1_parts.specs.declared.item.Item.{Item}
-use Rattle.t1_parts.specs.declared.item.Item.TheVariants as items
 use Rattle.t1_parts.specs.Counts.{glyphs_needed, raised, raised_item, subrs_needed}
 use Rattle.t1_parts.specs.LenIV.{first_lead, lead, lead_among}
 use Rattle.t1_parts.specs.Operator.{operator, operator_among}
@@ -31,7 +29,7 @@ use Rattle.t1_source.specs.declared.editing.Change.{Change}
 use Rattle.t1_source.specs.declared.editing.Change.TheVariants as changes
 use Rattle.t1_source.proofs.WellFormedSourceLaws.{raised_said}
 use Rattle.t1_charstrings.specs.Batch.{IsEditOf}
-use Rattle.t1_charstrings.specs.Prepared.{IsMadeOf, IsPreparedFor}
+use Rattle.t1_charstrings.specs.Prepared.{IsMadeBy, IsMadeOf, IsPreparedFor}
 use Rattle.t1_charstrings.proofs.Entered.{left_front, put_front}
 use Rattle.t1_font.proofs.Checking.{raised-checks, check-both}
 use Rattle.t1_charstrings.proofs.Entering.{body_in, first-body, raised-bodies}
@@ -162,11 +160,13 @@ lead_changed (changes.InsertPair at pair) s c fits edit entry = refl
 lead_changed (changes.RemovePair at) s c fits edit entry = refl
 
 -- what is asked of an edited source, by its change
-pub prepared_for : (e : EditedParts) (change : Change) (s : SourceParts) (len : ℕ) → IsMadeOf s len e → e.change ≡ Some change → (e.source ≡ s) × IsPreparedFor change s len
-prepared_for e change s len of is = subst (λ (o : Option Change). IfSome o (λ change. (e.source ≡ s) × IsPreparedFor change s len)) is of
+pub prepared_for : (e : EditedParts) (change : Change) (s : SourceParts) (len : ℕ) (beside : Option ℕ) → IsMadeOf s len beside e → e.change ≡ Some change
+    → (e.source ≡ s) × IsPreparedFor change s len
+prepared_for e change s len beside of is = subst (λ (o : Option Change). IsMadeBy o s len beside e.source) is of
 
 -- the edited source, by its change
-pub is_changed : (e : EditedParts) (change : Change) (s : SourceParts) (len : ℕ) → IsMadeOf s len e → e.change ≡ Some change → e ≡ record { source = s; change = Some change }
-is_changed e change s len of is =
-    let source : e.source ≡ s = (prepared_for e change s len of is).0 in
+pub is_changed : (e : EditedParts) (change : Change) (s : SourceParts) (len : ℕ) (beside : Option ℕ) → IsMadeOf s len beside e → e.change ≡ Some change
+    → e ≡ record { source = s; change = Some change }
+is_changed e change s len beside of is =
+    let source : e.source ≡ s = (prepared_for e change s len beside of is).0 in
     (λ j. record { source = source j; change = is j })

@@ -1,5 +1,5 @@
 -- Items behind which no section line stands.
-use Rattle.std.proofs.Common.{◌≡◌, ◌++◌, ℕ, zero, suc, cond, true, false, List, [], ◌∷◌, filter, length, take, drop, refl, sym, ◌∙◌, ap, Ok, Err}
+use Rattle.std.proofs.Common.{◌≡◌, ◌++◌, ℕ, zero, suc, max, arith, Bool, cond, true, false, List, [], ◌∷◌, filter, length, take, drop, refl, sym, ◌∙◌, ap, Ok, Err}
 use Rattle.std.specs.Prelude.{◌&&◌}
 use Rattle.std.specs.List.{list_all, list_any}
 use Rattle.t1_frac.specs.declared.fault.Code.TheVariants.{F23}
@@ -9,7 +9,10 @@ use Rattle.t1_parts.specs.declared.item.Item.{Item}
 use Rattle.t1_parts.specs.declared.item.Item.TheVariants.{Plain, Section, Subr, Glyph}
 use Rattle.t1_parts.specs.Counts.{raised_item}
 use Rattle.t1_parts.specs.EntryKeys.{is_section}
+use Rattle.t1_parts.specs.Sections.{is_glyphs_line}
 use Rattle.t1_parts.specs.Stretches.{stands_alone}
+use Rattle.t1_source.specs.WellFormed.{is_counted}
+use Rattle.t1_font.specs.Assembly.{counts_check}
 use Rattle.t1_charstrings.specs.Raising.{is_raised_counted, raised_check, raised_text}
 use Rattle.t1_charstrings.specs.Sums.{section_line, section_lines_text}
 use Rattle.t1_charstrings.proofs.AloneLaws.{sections_alone, raised_alone}
@@ -62,3 +65,22 @@ raised_sections_front subrs glyphs front items is none = raised_alone subrs glyp
 pub check_front : (subrs glyphs : ℕ) (front items : List Item) → front ≡ take (length front) items → list_any is_section (drop (length front) items) ≡ false → raised_check subrs glyphs front ≡ raised_check subrs glyphs items
 check_front subrs glyphs front items is none =
     ap (λ b. cond b (Ok tt) (Err (fault_at Nowhere F23))) (ap (list_all (is_raised_counted subrs glyphs)) is ∙ front_counted subrs glyphs (length front) items none)
+
+-- ---- counts for which nothing is needed
+
+-- they stay as they are
+unraised : (i : Item) → raised_item 0 0 i ≡ i
+unraised (Plain l) = refl
+unraised (Section before n after) = ap (λ count. Section before count after) (by (is_glyphs_line (Section before n after))) where
+  by : (b : Bool) → max n (cond b 0 0) ≡ n
+  by true = omega arith
+  by false = omega arith
+unraised (Subr n ws closing) = refl
+unraised (Glyph g ws closing) = refl
+
+unraised-counted : (items : List Item) → list_all (is_raised_counted 0 0) items ≡ list_all is_counted items
+unraised-counted [] = refl
+unraised-counted (i ∷ items) = ap (λ b. b && list_all (is_raised_counted 0 0) items) (ap is_counted (unraised i)) ∙ ap (λ b. is_counted i && b) (unraised-counted items)
+
+pub check_unraised : (items : List Item) → raised_check 0 0 items ≡ counts_check items
+check_unraised items = ap (λ b. cond b (Ok tt) (Err (fault_at Nowhere F23))) (unraised-counted items)

@@ -93,7 +93,7 @@ sections-inserted (i ∷ is) (suc at) x within none = ap (λ l. section_line i +
 
 -- ---- the sums
 
-same-ok : (a b : List ℕ) → ◌≡◌ {A = Result (List ℕ) Fault} (Ok a) (Ok b) → a ≡ b
+pub same-ok : (a b : List ℕ) → ◌≡◌ {A = Result (List ℕ) Fault} (Ok a) (Ok b) → a ≡ b
 same-ok a b e = cc
 
 -- the length of the lines that are kept is that of the private text

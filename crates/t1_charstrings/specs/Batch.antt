@@ -1,5 +1,5 @@
 -- What many edits at once make of the charstrings.
-use Rattle.std.specs.Prelude.{◌≡◌, ◌&&◌, if◌then◌else◌, ℕ, Bool, List, [], ◌∷◌, ◌++◌, Option, None, Ok, decimal, false, is_none, is_some}
+use Rattle.std.specs.Prelude.{◌≡◌, ◌&&◌, if◌then◌else◌, ℕ, Bool, List, [], ◌∷◌, ◌++◌, map, Option, None, Ok, decimal, false, is_none, is_some}
 use Rattle.std.specs.List.{flat_map, list_any}
 use Rattle.std.specs.Option.{option_map, option_or}
 use Rattle.t1_frac.specs.Ascii.{line_feed}
@@ -68,10 +68,16 @@ is_gone gone k = list_any (λ g. key_eq k (key_of g)) gone
 abbrev pub AreGone : List Key → SourceParts → List OwnedKey → Type 0
 AreGone keys made gone = (k : Key) → is_gone gone k ≡ (list_any (key_eq k) keys && is_none (body_at (bodies made.items) k))
 
+-- word: each of these keys stands once among them
+abbrev pub AreOnce : List Key → Type 0
+AreOnce [] = Unit {0}
+AreOnce (k ∷ ks) = (list_any (key_eq k) ks ≡ false) × AreOnce ks
+
 -- word: one source was made of the other by edits that name some entries, and these are the charstrings of those that were
--- replaced or added, and those that were removed
+-- replaced or added, and those that were removed, each named once
 pub record AreEdits (s made : SourceParts) (c : Charstrings) (entries : EditedEntries) : Type 0 where
   pub keys : List Key
   pub edit : IsEditOf keys s made c
   pub fresh : AreFresh (lead s) keys made entries.fresh
   pub gone : AreGone keys made entries.gone.items
+  pub once : AreOnce (map key_of entries.gone.items)

@@ -1,4 +1,5 @@
 pub mod Batch
+pub mod Beside
 pub mod Changed
 pub mod Entries
 pub mod Kept

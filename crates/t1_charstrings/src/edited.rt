@@ -8,6 +8,6 @@ use t1_font::OwnedKey;
 pub struct EditedEntries {
     /// The charstrings of the entries that were replaced or added.
     pub fresh: Charstrings,
-    /// The entries that are removed.
+    /// The entries that are removed, each named once.
     pub gone: Vec<OwnedKey>,
 }

@@ -61,7 +61,7 @@ pub fn entry_line_len(operator: &[u8], entry: &Entry, closing: &[u8]) -> usize
 }
 
 /// How long the line of an entry is whose charstring may be kept, up to 2^64 - 1; 0 where it isn't.
-fn kept_line_len(operator: &[u8], kept: Option<&Entry>, closing: &[u8]) -> usize
+pub(crate) fn kept_line_len(operator: &[u8], kept: Option<&Entry>, closing: &[u8]) -> usize
     ensures { result
         ≡ min (length (kept_entry_line operator.now closing.now (option_copied kept.entry)))
         (2 ^ 64 - 1) }
@@ -294,11 +294,12 @@ fn len_changed(
 fn len_after(
     charstrings: &Charstrings,
     private_len: usize,
+    beside: Option<usize>,
     source: &Source,
     made: &EditedSource,
     entries: &EditedEntries,
 ) -> Result<usize, Fault>
-    requires prepared { IsMadeOf source.now private_len made.now }
+    requires prepared { IsMadeOf source.now private_len beside made.now }
     requires lead { may_set_lead source.now made.now ≡ false }
     requires edits { AreEdits source.now (made_of made.now) charstrings.now entries.now }
     ensures judged { MatchResult result (λ _. file_check (made_of made.now) ≡ Ok tt)
@@ -308,22 +309,26 @@ fn len_after(
 {
     match made.change() {
         Some(change) => len_changed(charstrings, private_len, source, change, entries),
-        None => len_of_batch(charstrings, source, made.source(), entries),
+        None => len_of_batch(charstrings, beside, source, made.source(), entries),
     }
 }
 
 /// What edits that leave lenIV as it is make of the charstrings and of the length of the private
 /// text, or the first fault of the source that they make. Nothing is changed: there may be more
-/// room among the charstrings. The length after one edit goes by that of the source before it, so
-/// that it costs no look at the other lines; after a batch the items are gone through once.
+/// room among the charstrings. The length goes by that of the source before the edits, so that it
+/// costs no look at the other lines: after one edit by this alone, after a batch by the length that
+/// [`len_beside`](crate::len_beside) kept through its edits, and by the entries that they name. The
+/// section lines are looked at, and what stands before the last one. Where no length was kept for a
+/// batch, or where its edits changed the operator, all items are gone through once.
 pub fn prepare_lines(
     charstrings: &mut Charstrings,
     private_len: usize,
+    beside: Option<usize>,
     source: &Source,
     made: &EditedSource,
     entries: EditedEntries,
 ) -> Result<ReadyLines, Refusal>
-    requires prepared { IsMadeOf source.now private_len made.now }
+    requires prepared { IsMadeOf source.now private_len beside made.now }
     requires lead { may_set_lead source.now made.now ≡ false }
     requires edits { AreEdits source.now (made_of made.now) charstrings.old entries }
     ensures same { AreSameCharstrings charstrings.old charstrings.new }
@@ -331,7 +336,7 @@ pub fn prepare_lines(
     ensures ready { IfOk result (IsReadyLines (made_of made.now) charstrings.new) }
     ensures edited { IfOk result (λ lines. lines.charstrings ≡ ready.Edited entries) }
 {
-    let len = len_after(charstrings, private_len, source, made, &entries)?;
+    let len = len_after(charstrings, private_len, beside, source, made, &entries)?;
     make_room(
         charstrings,
         entries.fresh.subrs.len(),

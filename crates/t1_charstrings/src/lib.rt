@@ -11,8 +11,9 @@
 //! of those that are gone. With these [`prepare_lines`] makes ready what changes of the
 //! charstrings and of the length of the private text, or gives the first fault of the edited
 //! source, an `EditedSource` of `t1_source`; where lenIV may have been edited [`prepare_anew`] does
-//! so, and encrypts all charstrings anew. [`settle_lines`] puts it in its place, which can't fail.
-//! Nothing of a source is copied.
+//! so, and encrypts all charstrings anew. Each edit of a batch goes through [`len_beside`], so that
+//! the length costs by the edited entries alone. [`settle_lines`] puts what is ready in its place,
+//! which can't fail. Nothing of a source is copied.
 //!
 //! All of it is for the crates above.
 //!
@@ -21,11 +22,14 @@
 //! `check_length`: F23 by the length of the private text (`length_check`), which `laws` give after
 //! an edit. `prepare_lines` and `prepare_anew` judge the file of the edited source and make ready
 //! what changes (`IsReadyLines`): the one the charstrings of the named entries alone, where lenIV
-//! wasn't set, the other all of them. `settle_lines` puts it in place.
+//! wasn't set, the other all of them. `settle_lines` puts it in place. `len_beside` keeps what a
+//! batch makes of the length beside the charstrings (`IsKeptBeside`).
 
 mod anew;
 mod batch;
+mod beside;
 mod edited;
+mod edited_lines;
 mod encrypted;
 mod encrypted_items;
 mod entries;
@@ -38,6 +42,7 @@ mod settling;
 
 pub use anew::prepare_anew;
 pub use batch::batch_len;
+pub use beside::len_beside;
 pub use edited::EditedEntries;
 pub use encrypted::{
     charstrings_of, encrypted_glyph, encrypted_subr, put_fresh_glyph, put_fresh_subr,

@@ -4,6 +4,7 @@ ghost use Rattle.std.specs.Prelude.{max, min};
 ghost use Rattle.t1_text.specs.Tokens.{last_is, tokens};
 ghost use Rattle.t1_parts.specs.Counts.{glyphs_needed, raised_item, subrs_needed};
 ghost use Rattle.t1_parts.specs.ItemRefs.{item_of};
+ghost use Rattle.t1_font.specs.Assembly.{counts_check};
 ghost use Rattle.t1_charstrings.specs.Lines.{kept_line, kept_lines_text};
 ghost use Rattle.t1_charstrings.specs.Raising.{is_raised_counted, raised_check, raised_text};
 ghost use Rattle.t1_charstrings.specs.Sums.{section_line};
@@ -177,4 +178,16 @@ pub(crate) fn check_raised_sections(items: &Items, needed: &Needed) -> Result<()
     ensures { result ≡ raised_check needed.now.subrs needed.now.glyphs items.now }
 {
     check_raised(&items.through_sections(), needed)
+}
+
+/// F23 where the count of a section line has more than nine digits. Behind the last section line no
+/// item is looked at.
+pub(crate) fn check_sections(items: &Items) -> Result<(), Fault>
+    ensures { result ≡ counts_check items.now }
+{
+    let none = Needed {
+        subrs: 0,
+        glyphs: 0,
+    };
+    check_raised_sections(items, &none)
 }

@@ -13,16 +13,16 @@ use t1_run::Bodies;
 /// What the run of a glyph asks of a source: the Subrs, which were compiled, and the names of all
 /// glyphs.
 #[derive(Drop)]
-pub(crate) struct SourceBodies<'s, 'i> {
+pub(crate) struct SourceBodies<'s, 'n, 'i> {
     pub(crate) subrs: &'s SubrBodies,
-    pub(crate) names: &'s IndexSet<&'i [u8]>,
+    pub(crate) names: &'s IndexSet<&'n [u8]>,
     /// The items of the source. No code reads them; contracts see the bodies of its glyphs in them.
     pub(crate) items: &'s Items<'i>,
     ghost known: { (g : List ℕ)
         → is_name_kept names.now.keys g ≡ is_some (glyph_to_run items.now g) },
 }
 
-impl Bodies for SourceBodies<'_, '_> {
+impl Bodies for SourceBodies<'_, '_, '_> {
     ghost use Rattle.t1_font.specs.ToRun.{glyph_to_run};
     ghost use Rattle.t1_font.specs.StoredSubrs.{subr_stored};
 

@@ -1,5 +1,5 @@
 -- What edits make of the charstrings that are held.
-use Rattle.std.proofs.Common.{◌≡◌, ◌<◌, ◌+◌, ℕ, Bool, true, false, cond, ◌&&◌, ◌||◌, List, [], ◌∷◌, map, drop, get_or, length, Option, None, Result, Ok, Err, refl, ap, sym, ◌∙◌, subst}
+use Rattle.std.proofs.Common.{◌≡◌, ◌<◌, ◌+◌, ℕ, Bool, true, false, cond, ◌&&◌, ◌||◌, List, [], ◌∷◌, map, drop, filter, get_or, length, Option, None, Result, Ok, Err, refl, ap, sym, ◌∙◌, subst}
 use Rattle.std.specs.Prelude.{is_none, IfOk, MatchResult}
 use Rattle.std.specs.List.{AllByRecursion, list_any}
 use Rattle.std.specs.Option.{option_map, option_or}
@@ -12,7 +12,7 @@ use Rattle.t1_font.proofs.Compiling.{or-assoc, or-none}
 use Rattle.t1_font.specs.declared.owned_key.OwnedKey.{OwnedKey}
 use Rattle.t1_charstrings.specs.declared.entries.Charstrings.{Charstrings}
 use Rattle.t1_charstrings.specs.declared.edited.EditedEntries.{EditedEntries}
-use Rattle.t1_charstrings.specs.Batch.{is_gone, AreEdits, AreFresh, AreGone}
+use Rattle.t1_charstrings.specs.Batch.{is_gone, AreEdits, AreFresh, AreGone, AreOnce}
 use Rattle.t1_charstrings.specs.Entries.{KeptCharstring, encrypted}
 use Rattle.t1_charstrings.specs.Kept.{charstring_at}
 use Rattle.t1_font.specs.OwnedKeys.{key_of}
@@ -135,6 +135,15 @@ gone-are : (made : SourceParts) (changes : List EntryChange) (gone : List OwnedK
 gone-are made changes gone distinct has are k =
     gone-among k gone ∙ ap (list_any (key_eq k)) are ∙ gone-at made k changes distinct has
 
+-- each stands there once
+gone-once : (made : SourceParts) (changes : List EntryChange) → AreDistinctKeys (changed_keys changes) → AreOnce (gone_keys changes)
+gone-once made [] d = tt
+gone-once made (c ∷ changes) d = by (is_none c.body) (gone-once made changes d.1) where
+  by : (b : Bool) → AreOnce (gone_keys changes)
+      → AreOnce (changed_keys (cond b (c ∷ filter (λ x. is_none x.body) changes) (filter (λ x. is_none x.body) changes)))
+  by true rest = (none-gone made (key_of c.named) changes d.0, rest)
+  by false rest = rest
+
 -- ---- edits
 
 pub edits_are : (s made : SourceParts) (changes : List EntryChange) (c : Charstrings) (entries : EditedEntries) → AreEncrypted s c → IsWellFormed made
@@ -145,6 +154,7 @@ edits_are s made changes c entries kept well sound edited distinct has fresh gon
   edit = record { kept = kept; well = well; sound = sound; same = edited.bodies };
   fresh = fresh-are (lead s) made changes entries.fresh distinct has fresh;
   gone = gone-are made changes entries.gone.items distinct has gone;
+  once = subst AreOnce (sym gone) (gone-once made changes distinct);
 }
 
 pub run-where-stale : (count : ℕ) (ks ls : List Key) (s : SourceParts) (kept l : List KeptGlyph) → HaveSameKeys ks ls

@@ -35,7 +35,8 @@ use Rattle.t1_charstrings.specs.Entries.{glyph_charstring, subr_charstring}
 use Rattle.t1_charstrings.specs.Kept.{AreEncrypted, Encrypt}
 use Rattle.t1_font.specs.Lengths.{IsPrivateLen}
 use Rattle.t1_cache.specs.declared.records.Records.{Records}
-use Rattle.t1_charstrings.specs.Prepared.{IsMadeOf, IsPreparedFor}
+use Rattle.t1_charstrings.specs.Beside.{IsKeptBeside}
+use Rattle.t1_charstrings.specs.Prepared.{IsMadeBy, IsMadeOf, IsPreparedFor}
 use Rattle.t1_cache.specs.Edited.{IsEditedAt}
 use Rattle.t1_cache.specs.EditKeys.{named}
 use Rattle.t1_cache.proofs.Distinct.{names_distinct}
@@ -51,7 +52,7 @@ use Rattle.t1_held.specs.Held.{IsHeld}
 use Rattle.t1_held.specs.declared.preparing.Edits.{Edits}
 use Rattle.t1_held.specs.Batch.{EntryEdit, keys}
 use Rattle.t1_held.specs.Drafting.{IsEditedBy}
-use Rattle.t1_held.specs.Edits.{AreChanges, AreRight, IsPreparedEdit}
+use Rattle.t1_held.specs.Edits.{AreChanges, AreRight, IsKnownBeside, IsPreparedEdit}
 use Rattle.t1_font.specs.Glyphs.{Glyph as Reported}
 use Rattle.t1_font.specs.MeasuredGlyphs.{MeasuredFont, measured}
 use Rattle.t1_font.specs.SourceChecks.{measured_source}
@@ -166,24 +167,30 @@ edit_right s k edit change h prepared e source made changes = record {
   source = subst (λ (m : EditedParts). IfSome m.change (λ change. (m.source ≡ e.source.now) × IsFor change e.source.now)) (sym made)
       (sym source, subst (IsFor change) (sym source) (record { pairs = k; serves = prepared.serves; well = prepared.well }));
   changes = subst (λ t. AreChanges t (changed change s k).0 (named edit) h e.changes.items) (sym source) changes;
+  beside = subst (λ (m : EditedParts). IsKnownBeside m.change e.source.now h.private_len m.source e.beside) (sym made) tt;
 }
 
 pub batch_right : (s made : SourceParts) (entries : List EntryEdit) (h : Held) → IsHeld s h → IsEditedBy entries s made → (e : Edits) → e.source.now ≡ s
-    → e.made ≡ record { source = made; change = None } → AreChanges s made (keys entries) h e.changes.items → AreRight (keys entries) made h e
-batch_right s made entries h held edited e source is changes = record {
+    → e.made ≡ record { source = made; change = None } → AreChanges s made (keys entries) h e.changes.items → IsWellFormed s
+    → IsKeptBeside s h.private_len made e.beside → AreRight (keys entries) made h e
+batch_right s made entries h held edited e source is changes well kept = record {
   held = subst (λ t. IsHeld t h) (sym source) held;
   well = edited.well;
   made = ap made_of is;
   source = subst (λ (m : EditedParts). IfSome m.change (λ change. (m.source ≡ e.source.now) × IsFor change e.source.now)) (sym is) tt;
   changes = subst (λ t. AreChanges t made (keys entries) h e.changes.items) (sym source) changes;
+  beside =
+      subst (λ (m : EditedParts). IsKnownBeside m.change e.source.now h.private_len m.source e.beside) (sym is)
+      (subst IsWellFormed (sym source) well, subst (λ t. IsKeptBeside t h.private_len made e.beside) (sym source) kept);
 }
 
 -- of the source that is edited so much is known
-for_held : (o : Option Change) (t s : SourceParts) (len : ℕ) → file_check s ≡ Ok tt → IsPrivateLen s len → IfSome o (λ change. (t ≡ s) × IsFor change s)
-    → IfSome o (λ change. (t ≡ s) × IsPreparedFor change s len)
-for_held None t s len file known right = tt
-for_held (Some change) t s len file known right = (right.0, record { fits = right.1; file = file; known = known })
+for_held : (o : Option Change) (t s : SourceParts) (len : ℕ) (beside : Option ℕ) → file_check s ≡ Ok tt → IsPrivateLen s len → IfSome o (λ change. (t ≡ s) × IsFor change s)
+    → IsKnownBeside o s len t beside → IsMadeBy o s len beside t
+for_held None t s len beside file known right counted = record { well = counted.0; file = file; known = known; kept = counted.1 }
+for_held (Some change) t s len beside file known right counted = (right.0, record { fits = right.1; file = file; known = known })
 
-pub made_of_held : (ks : List Key) (made : SourceParts) (h : Held) (e : Edits) → AreRight ks made h e → IsMadeOf e.source.now h.private_len e.made
+pub made_of_held : (ks : List Key) (made : SourceParts) (h : Held) (e : Edits) → AreRight ks made h e → IsMadeOf e.source.now h.private_len e.beside e.made
 made_of_held ks new h e right =
-    for_held e.made.change e.made.source e.source.now h.private_len (file_checked e.source.now (right_checked e.source.now h.records right.held.right)) right.held.len right.source
+    for_held e.made.change e.made.source e.source.now h.private_len e.beside (file_checked e.source.now (right_checked e.source.now h.records right.held.right)) right.held.len
+    right.source right.beside

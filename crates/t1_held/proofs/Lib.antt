@@ -1,14 +1,9 @@
-pub mod AloneLaws
 pub mod CommitLaws
 pub mod Drafting
 pub mod Encrypting
-pub mod Gathering
 pub mod HeldLaws
 pub mod HintLaws
-pub mod Marking
 pub mod Members
+pub mod Noting
 pub mod Ordering
-pub mod Passing
-pub mod Removing
 pub mod Reporting
-pub mod Sounding

@@ -11,10 +11,11 @@ use Rattle.t1_source.specs.declared.edit.Edit.{Edit}
 use Rattle.t1_source.specs.declared.edit.Edit.TheVariants.{ReplaceGlyph, AddGlyph, RemoveGlyph, ReplaceSubr, AddSubr, RemoveSubr, Encode, Unencode, LenIv, Kern, Unkern}
 use Rattle.t1_cache.specs.Edited.{names_after}
 use Rattle.t1_cache.specs.Laws.{AreDistinct}
-use Rattle.t1_font.proofs.Lookups.{bytes_tell}
-use Rattle.t1_cache.proofs.Filtering.{filter-as, filter-all, filter-both, filter-none, has-passing}
+use Rattle.t1_font.proofs.Lookups.{bytes-turned, bytes_tell}
+use Rattle.t1_cache.proofs.Filtering.{filter-as, filter-all, filter-both, filter-none, filter-same, has-passing}
+use Rattle.t1_run.specs.Run.{Key, Glyph, Subr}
 use Rattle.t1_held.specs.Batch.{edited_entries}
-use Rattle.t1_held.specs.Drafting.{was_added}
+use Rattle.t1_held.specs.Drafting.{added_last_first, names_back, was_added}
 
 -- names after edits: those of before that are still there and weren't gone at any time, in their order, then the others
 abbrev pub InOrder : (List ℕ → Bool) → List (List ℕ) → List (List ℕ) → Type 0
@@ -169,3 +170,114 @@ edit-order edit gone xs ys zs after distinct is =
     by (LenIv n) d = still (LenIv n) ys (λ x. refl) is
     by (Kern left right v) d = still (Kern left right v) ys (λ x. refl) is
     by (Unkern left right) d = still (Unkern left right) ys (λ x. refl) is
+
+-- ---- the glyphs that stand last
+
+-- the names of the glyphs that weren't there before, or were gone, are those of a list that are there, in its order
+abbrev pub InTurn : (List ℕ → Bool) → List (List ℕ) → List (List ℕ) → List (List ℕ) → Type 0
+InTurn gone xs ys ls = filter (λ g. gone g || not (list_any (bytes_eq g) xs)) ys ≡ filter (λ g. list_any (bytes_eq g) ys) ls
+
+pub none-in-turn : (xs : List (List ℕ)) → InTurn (λ g. false) xs xs []
+none-in-turn xs = filter-as (λ g. false || not (list_any (bytes_eq g) xs)) (λ g. false) xs (λ g there. ap not there) ∙ filter-none xs
+
+-- a glyph more, which was added
+turn-more : (gone : List ℕ → Bool) (xs ys ls : List (List ℕ)) (g : List ℕ) → AreDistinct (ys ++ g ∷ []) → InTurn gone xs ys ls
+    → InTurn (λ x. gone x || bytes_eq x g) xs (ys ++ g ∷ []) (filter (λ x. not (bytes_eq g x)) ls ++ g ∷ [])
+turn-more gone xs ys ls g distinct is =
+    filter-append others ys (g ∷ [])
+    ∙ ap (λ l. l ++ filter others (g ∷ [])) (filter-as others other ys (λ x there. others-as x (last-apart ys g distinct x there)) ∙ is)
+    ∙ ap (λ l. filter there-before ls ++ l) here
+    ∙ ap (λ l. l ++ filter there-now (g ∷ [])) (filter-same there-before apart ls (λ x. stays x (bytes_eq g x) refl) ∙ sym (filter-both (λ x. not (bytes_eq g x)) there-now ls))
+    ∙ sym (filter-append there-now (filter (λ x. not (bytes_eq g x)) ls) (g ∷ []))
+  where
+    other : List ℕ → Bool
+    other x = gone x || not (list_any (bytes_eq x) xs)
+
+    others : List ℕ → Bool
+    others x = (gone x || bytes_eq x g) || not (list_any (bytes_eq x) xs)
+
+    there-before : List ℕ → Bool
+    there-before x = list_any (bytes_eq x) ys
+
+    there-now : List ℕ → Bool
+    there-now x = list_any (bytes_eq x) (ys ++ g ∷ [])
+
+    apart : List ℕ → Bool
+    apart x = not (bytes_eq g x) && there-now x
+
+    others-as : (x : List ℕ) → bytes_eq x g ≡ false → others x ≡ other x
+    others-as x off = ap (λ b. b || not (list_any (bytes_eq x) xs)) (ap (λ b. gone x || b) off ∙ or-false (gone x))
+
+    new : there-now g ≡ true
+    new = list_any-append (bytes_eq g) ys (g ∷ []) ∙ ap (λ b. there-before g || (b || false)) (bytes_tell.itself g) ∙ or-true (there-before g)
+
+    here : filter others (g ∷ []) ≡ filter there-now (g ∷ [])
+    here =
+        ap (λ b. cond b (g ∷ []) [])
+        (ap (λ b. b || not (list_any (bytes_eq g) xs)) (ap (λ b. gone g || b) (bytes_tell.itself g) ∙ or-true (gone g)) ∙ sym new)
+
+    not-before : (b : Bool) → there-before g ≡ b → there-before g ≡ false
+    not-before false e = e
+    not-before true e = let never : true ≡ false = sym (bytes_tell.itself g) ∙ last-apart ys g distinct g e in absurd (cc)
+
+    stays : (x : List ℕ) (b : Bool) → bytes_eq g x ≡ b → there-before x ≡ apart x
+    stays x true on =
+        ap there-before (sym (bytes_tell.same g x on)) ∙ not-before (there-before g) refl ∙ sym (ap (λ b. not b && there-now x) on)
+    stays x false off =
+        sym (or-false (there-before x)) ∙ ap (λ b. there-before x || (b || false)) (sym (bytes-turned x g ∙ off))
+        ∙ sym (list_any-append (bytes_eq x) ys (g ∷ [])) ∙ sym (ap (λ b. not b && there-now x) off)
+
+-- glyphs less
+turn-less : (gone : List ℕ → Bool) (xs ys ls : List (List ℕ)) (q : List ℕ → Bool) → InTurn gone xs ys ls → InTurn gone xs (filter q ys) ls
+turn-less gone xs ys ls q is =
+    filter-turned q (λ g. gone g || not (list_any (bytes_eq g) xs)) ys
+    ∙ ap (filter q) is
+    ∙ filter-both (λ g. list_any (bytes_eq g) ys) q ls
+    ∙ filter-same (λ g. list_any (bytes_eq g) ys && q g) (λ g. list_any (bytes_eq g) (filter q ys)) ls (λ g. sym (has-passing q g ys))
+
+-- the same glyphs are gone
+pub turn-as : (gone now : List ℕ → Bool) (xs ys ls : List (List ℕ)) → ((g : List ℕ) → gone g ≡ now g) → InTurn gone xs ys ls → InTurn now xs ys ls
+turn-as gone now xs ys ls same is = subst (λ p. InTurn p xs ys ls) (λ j. λ g. same g j) is
+
+subr-added-back : (v : ℤ) (body : List ℕ) (ks : List Key) → names_back (added_last_first (edited_entries (AddSubr v body)) ++ ks) ≡ names_back ks
+subr-added-back (pos n) body ks = refl
+subr-added-back (negsuc n) body ks = refl
+
+subr-replaced-back : (v : ℤ) (body : List ℕ) (ks : List Key) → names_back (added_last_first (edited_entries (ReplaceSubr v body)) ++ ks) ≡ names_back ks
+subr-replaced-back (pos n) body ks = refl
+subr-replaced-back (negsuc n) body ks = refl
+
+subr-removed-back : (v : ℤ) (ks : List Key) → names_back (added_last_first (edited_entries (RemoveSubr v)) ++ ks) ≡ names_back ks
+subr-removed-back (pos n) ks = refl
+subr-removed-back (negsuc n) ks = refl
+
+pub edit-turn : (edit : Edit) (gone : List ℕ → Bool) (xs ys zs : List (List ℕ)) (ks : List Key) → zs ≡ names_after edit ys → AreDistinct zs → InTurn gone xs ys (names_back ks)
+    → InTurn (λ g. gone g || was_added (edited_entries edit) g) xs zs (names_back (added_last_first (edited_entries edit) ++ ks))
+edit-turn edit gone xs ys zs ks after distinct is =
+    subst (λ l. InTurn (λ g. gone g || was_added (edited_entries edit) g) xs l (names_back (added_last_first (edited_entries edit) ++ ks))) (sym after)
+    (by edit (subst AreDistinct after distinct))
+  where
+    Turned : Edit → List (List ℕ) → Type 0
+    Turned edit l = InTurn (λ g. gone g || was_added (edited_entries edit) g) xs l (names_back (added_last_first (edited_entries edit) ++ ks))
+
+    still : (edit : Edit) (l : List (List ℕ)) → ((g : List ℕ) → was_added (edited_entries edit) g ≡ false)
+        → names_back (added_last_first (edited_entries edit) ++ ks) ≡ names_back ks → InTurn gone xs l (names_back ks) → Turned edit l
+    still edit l none back was =
+        turn-as gone (λ g. gone g || was_added (edited_entries edit) g) xs l (names_back (added_last_first (edited_entries edit) ++ ks))
+        (λ g. sym (ap (λ b. gone g || b) (none g) ∙ or-false (gone g)))
+        (subst (InTurn gone xs l) (sym back) was)
+
+    by : (edit : Edit) → AreDistinct (names_after edit ys) → Turned edit (names_after edit ys)
+    by (AddGlyph g body) d =
+        turn-as (λ x. gone x || bytes_eq x g) (λ x. gone x || was_added (edited_entries (AddGlyph g body)) x) xs (ys ++ g ∷ []) (names_back (Glyph g ∷ ks))
+        (λ x. ap (λ b. gone x || b) (added-here g x body)) (turn-more gone xs ys (names_back ks) g d is)
+    by (RemoveGlyph g) d = still (RemoveGlyph g) (filter (λ name. not (bytes_eq g name)) ys) (λ x. refl) refl (turn-less gone xs ys (names_back ks) (λ name. not (bytes_eq g name)) is)
+    by (ReplaceGlyph g body) d = still (ReplaceGlyph g body) ys (λ x. refl) refl is
+    by (ReplaceSubr n body) d = still (ReplaceSubr n body) ys (replaced-not n body) (subr-replaced-back n body ks) is
+    by (AddSubr n body) d = still (AddSubr n body) ys (subr-not n body) (subr-added-back n body ks) is
+    by (RemoveSubr n) d = still (RemoveSubr n) ys (removed-not n) (subr-removed-back n ks) is
+    by (Encode code g) d = still (Encode code g) ys (λ x. refl) refl is
+    by (Unencode code) d = still (Unencode code) ys (λ x. refl) refl is
+    by (LenIv n) d = still (LenIv n) ys (λ x. refl) refl is
+    by (Kern left right v) d = still (Kern left right v) ys (λ x. refl) refl is
+    by (Unkern left right) d = still (Unkern left right) ys (λ x. refl) refl is

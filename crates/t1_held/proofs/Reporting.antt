@@ -1,182 +1,274 @@
 -- What became of the entries that edits name is what the edits changed.
-use Rattle.std.proofs.Common.{◌≡◌, ℕ, Bool, true, false, cond, not, List, [], ◌++◌, map, filter, Option, None, Some, Result, Ok, Err, Vec, Global, is_some, refl, sym, ◌∙◌, ap, subst}
-use Rattle.std.specs.Prelude.{◌||◌, ◌&&◌, MatchResult}
+use Rattle.std.proofs.Common.{◌≡◌, ℕ, Bool, true, false, cond, not, List, [], ◌∷◌, ◌++◌, map, filter, reverse, Option, None, Some, Result, Ok, Err, is_some, refl, sym, ◌∙◌, ap, subst}
+use Rattle.std.specs.Prelude.{◌||◌, ◌&&◌}
 use Rattle.std.specs.List.{list_any, AllByRecursion}
+use Rattle.std.specs.Option.{option_or}
+use Rattle.std.specs.Result.{result_ok}
 use Rattle.std.specs.Str.{bytes_eq}
-use Rattle.std.proofs.Math.Bool.{or-false}
-use Rattle.std.proofs.lemmas.List.{append-nil}
+use Rattle.std.proofs.Math.Bool.{and-false, or-false, or-true}
+use Rattle.std.proofs.lemmas.Bool.{or_parts}
+use Rattle.std.proofs.lemmas.List.{map-append, reverse-append}
 use Rattle.std.proofs.lemmas.List.Folds.{list_any-append}
+use Rattle.t1_frac.specs.declared.fault.Code.{Code}
 use Rattle.t1_frac.specs.declared.fault.Fault.{Fault}
+use Rattle.t1_frac.specs.declared.fault.Place.{Place}
+use Rattle.t1_frac.specs.declared.fault.Place.TheVariants as places
 use Rattle.t1_frac.specs.declared.fault.Refusal.{Refusal}
 use Rattle.t1_frac.specs.declared.fault.Refusal.TheVariants as refusals
-use Rattle.t1_frac.specs.Outcome.{◌>>=◌, Gives, Refuses}
+use Rattle.t1_frac.specs.Outcome.{reported_at, ◌>>=◌, Refuses}
+use Rattle.t1_code.specs.declared.command.Command.{Command}
+use Rattle.t1_code.specs.Words.{commands}
+use Rattle.t1_parts.specs.declared.item.Item.{Item}
+use Rattle.t1_parts.specs.declared.item.Item.TheVariants as items
 use Rattle.t1_parts.specs.SourceParts.{SourceParts}
-use Rattle.t1_run.specs.Run.{Key, Glyph}
-use Rattle.t1_run.specs.RunKeys.{key_eq}
-use Rattle.t1_run.specs.Touched.{is_named}
+use Rattle.t1_run.specs.Run.{Key, Subr, Glyph}
+use Rattle.t1_run.specs.RunKeys.{body_at, key_eq}
+use Rattle.t1_run.specs.Touched.{is_key_of}
 use Rattle.t1_run.proofs.Within.{each-append}
 use Rattle.t1_font.specs.Assembly.{file_check}
-use Rattle.t1_font.specs.Bodies.{bodies_check}
+use Rattle.t1_font.specs.Bodies.{bodies, bodies_check, glyph_among, words_check}
 use Rattle.t1_font.specs.Glyphs.{glyph_names}
-use Rattle.t1_font.proofs.LengthLaws.{body_fault_reported}
 use Rattle.t1_font.specs.OwnedKeys.{key_of}
-use Rattle.t1_cache.proofs.Distinct.{names_distinct}
+use Rattle.t1_font.specs.declared.owned_key.OwnedKey.{OwnedKey}
+use Rattle.t1_font.specs.declared.owned_key.OwnedKey.TheVariants as named
+use Rattle.t1_font.proofs.Keys.{glyph-key}
+use Rattle.t1_font.proofs.LengthLaws.{body_fault_reported}
+use Rattle.t1_cache.proofs.Filtering.{among-passing, filter-as, passed}
 use Rattle.t1_cache.proofs.Lists.{all-weaken}
 use Rattle.t1_rerun.specs.declared.entry_change.EntryChange.{EntryChange}
 use Rattle.t1_rerun.specs.Right.{has_glyph, IsInOrder}
-use Rattle.t1_rerun.specs.Settled.{changed_keys, last_glyphs, was_moved, AreDistinctKeys, HasBody}
-use Rattle.t1_cache.proofs.Filtering.{among-passing, filter-as, passed}
+use Rattle.t1_rerun.specs.Settled.{changed_keys, last_glyph, last_glyphs, was_moved, AreDistinctKeys, HasBody}
 use Rattle.t1_held.specs.declared.batch.entries.EditedEntry.{EditedEntry}
-use Rattle.t1_held.specs.Batch.{entry_edit, keys, EntryEdit}
-use Rattle.t1_held.specs.Drafting.{was_added, AreBatchChanges, IsEditedBy, IsSoundBut}
-use Rattle.t1_held.specs.Passing.{all_marked, all_removed, after_items, changes_by, items_put, none_sought, Sought}
-use Rattle.t1_held.proofs.Gathering.{Outcome}
+use Rattle.t1_held.specs.Batch.{entry_edit, has_fault, is_fault, keys, EntryEdit}
+use Rattle.t1_held.specs.Drafting.{added_last_first, last_body, names_back, was_added, AreBatchChanges, IsEditedBy}
+use Rattle.t1_held.specs.Noting.{added_keys, after_taken, all_bodies, all_taken, changes_by, nothing_kept, other_keys, Kept}
 use Rattle.t1_held.proofs.Members.{same_edited}
-use Rattle.t1_font.proofs.Keys.{glyph-key}
-use Rattle.t1_held.proofs.Passing.{absent, all-put, always, at-glyph, after-at, distinct, has_at, itself, keys-any, mark_is, marks-added, marks-named, passes, tallied, tally, IsPut, Passes}
-use Rattle.t1_held.proofs.Removing.{all-last, checked, each-removed, last-append, removed-any, removed-distinct, removed-last, removed-unmoved, unit, IsRemoved}
+use Rattle.t1_held.proofs.Noting.{added-any, added-back, added-or-other, all-reverse, bodies-last, change-reverse, changes-distinct, distinct-both, each-taken, has-reverse, has_body, has_change, has_key, last-append, last-named, left-at, moved-any, moved-reverse, named-back, names-last, none-last, taken-any, taken-distinct, IsTaken}
+use Rattle.t1_held.proofs.Ordering.{order-as}
 
--- ---- an outcome
+-- ---- bodies and names
 
-put-fault : (r : Outcome) (back : List EntryChange) (fault : Fault) → (r >>= λ changes. Ok (changes ++ back)) ≡ Err fault → r ≡ Err fault
-put-fault (Ok changes) back fault h = absurd (cc)
-put-fault (Err other) back fault h = let same : other ≡ fault = cc in ap Err same
+abbrev Checked : Type 0
+Checked = Result (Unit {0}) Fault
 
-put-ok : (r : Outcome) (back cs : List EntryChange) → (r >>= λ changes. Ok (changes ++ back)) ≡ Ok cs → (front : List EntryChange) × (r ≡ Ok front) × (cs ≡ front ++ back)
-put-ok (Ok front) back cs h = let same : front ++ back ≡ cs = cc in (front, refl, sym same)
-put-ok (Err fault) back cs h = absurd (cc)
+abbrev checks : Place → Result (List Command) Code → Checked
+checks place r = reported_at place r >>= λ body. Ok tt
 
--- ---- edits of a source
+rest-fine : (r s : Checked) → (r >>= λ checked. s) ≡ Ok tt → s ≡ Ok tt
+rest-fine (Ok u) s fine = fine
+rest-fine (Err fault) s fine = absurd (cc)
 
-module _ (es : List EditedEntry) (old new : SourceParts) (fine : bodies_check old.items ≡ Ok tt) (e : IsEditedBy (map entry_edit es) old new) where
-  abbrev marks : Sought
-  marks = all_marked es none_sought
+-- in items whose bodies have no fault, a glyph has a body where its name stands there
+present : (is : List Item) → bodies_check is ≡ Ok tt → (g : List ℕ) → is_some (glyph_among is g) ≡ list_any (bytes_eq g) (glyph_names is)
+unfolding words_check
+present [] fine g = refl
+present (items.Plain l ∷ is) fine g = present is fine g
+present (items.Section b n a ∷ is) fine g = present is fine g
+present (items.Subr n words c ∷ is) fine g = present is (rest-fine (words_check (places.Subr n) words) (bodies_check is) fine) g
+present (items.Glyph h words c ∷ is) fine g =
+    by (commands words) fine (bytes_eq g h) (present is (rest-fine (words_check (places.Glyph h) words) (bodies_check is) fine) g)
+  where
+    by : (r : Result (List Command) Code) → (checks (places.Glyph h) r >>= λ checked. bodies_check is) ≡ Ok tt → (b : Bool)
+        → is_some (glyph_among is g) ≡ list_any (bytes_eq g) (glyph_names is)
+        → is_some (option_or (cond b (result_ok r) None) (glyph_among is g)) ≡ (b || list_any (bytes_eq g) (glyph_names is))
+    by (Ok body) fine true rest = refl
+    by (Ok body) fine false rest = rest
+    by (Err code) fine b rest = absurd (cc)
 
+-- the first fault of the bodies is that of the source
+pub first-fault : (s : SourceParts) (is : List Item) (refusal : Refusal) → is ≡ s.items → Refuses refusal (bodies_check is) → Refuses refusal (file_check s)
+first-fault s is refusals.Memory same h = tt
+first-fault s is (refusals.Fault fault) same h = body_fault_reported s fault (sym (ap bodies_check same) ∙ h)
+
+pub faults-noted : (es : List EditedEntry) → has_fault (map entry_edit es) ≡ list_any (λ e. is_fault e.after) es
+faults-noted [] = refl
+faults-noted (e ∷ es) = ap (λ b. is_fault e.after || b) (faults-noted es)
+
+module _ (es : List EditedEntry) (old new : SourceParts) (e : IsEditedBy (map entry_edit es) old new) (fine : bodies_check new.items ≡ Ok tt) where
   abbrev entries : List EntryEdit
   entries = map entry_edit es
 
-  abbrev left : Sought
-  left = after_items new.items marks
+  abbrev kept : Kept
+  kept = all_bodies es nothing_kept
 
-  abbrev back : List EntryChange
-  back = all_removed left es
+  abbrev added : List OwnedKey
+  added = reverse (added_keys es)
 
-  sought-is : (k : Key) → is_some (marks k) ≡ list_any (key_eq k) (keys entries)
-  sought-is k = marks-named es none_sought k
+  abbrev left : Kept
+  left = after_taken added kept
 
-  added-is : (g : List ℕ) → mark_is itself (marks (Glyph g)) ≡ was_added entries g
-  added-is g = marks-added es none_sought (Glyph g) ∙ ap (λ p. list_any p entries) (λ j. λ x. x.added && sym (glyph-key g x.key) j)
+  abbrev moved : List EntryChange
+  moved = all_taken kept true added
 
-  checked-all : bodies_check new.items ≡ unit (items_put marks new.items)
-  checked-all =
-      let p = e.well.items in
-      subst (λ l. bodies_check l ≡ unit (items_put marks l)) (sym p.whole)
-      (checked (keys entries) p.closefile p.inner [] marks p.stand (subst (AllByRecursion (IsSoundBut (keys entries))) p.whole (e.sound fine)) (λ k h. sought-is k))
+  abbrev others : List EntryChange
+  others = all_taken left false (other_keys es)
 
-  refused : (refusal : Refusal) → Refuses refusal (changes_by es new.items) → Refuses refusal (file_check new)
-  refused refusals.Memory h = tt
-  refused (refusals.Fault fault) h = body_fault_reported new fault (checked-all ∙ ap unit (put-fault (items_put marks new.items) back fault h))
+  kept-is : (k : Key) → kept k ≡ last_body entries k
+  kept-is k = bodies-last es nothing_kept k ∙ or-nothing (last_body entries k) where
+    or-nothing : (r : Option (Option (List Command))) → option_or r None ≡ r
+    or-nothing None = refl
+    or-nothing (Some x) = refl
 
-  -- a glyph that isn't named was there before
-  there-before : (g : List ℕ) → list_any (bytes_eq g) (glyph_names new.items) ≡ true → marks (Glyph g) ≡ None → has_glyph old g ≡ true
-  there-before g there none =
-      let unnamed : is_named (keys entries) g ≡ false =
-      ap (λ q. list_any q (keys entries)) (λ j. λ k. glyph-key g k j) ∙ sym (sought-is (Glyph g)) ∙ ap is_some none in
-      passed (λ x. not (is_named (keys entries) x)) g (glyph_names old.items)
-      (ap (list_any (bytes_eq g)) e.edited.order
-      ∙ among-passing (λ x. not (is_named (keys entries) x)) g (glyph_names new.items) there (ap not unnamed))
+  kept-named : (k : Key) → is_some (kept k) ≡ list_any (key_eq k) (keys entries)
+  kept-named k = ap is_some (kept-is k) ∙ last-named entries k
 
-  module _ (front : List EntryChange) (put : items_put marks new.items ≡ Ok front) where
-    pass : Passes new.items marks front
-    pass = passes new.items marks front put
+  among-added : (k : Key) → has_key k added ≡ list_any (key_eq k) (added_last_first entries)
+  among-added k = ap (list_any (key_eq k)) (added-back es)
 
-    removed : AllByRecursion (IsRemoved left) back
-    removed = each-removed es left
+  -- an entry that an edit added is kept
+  added-kept : (k : Key) → has_key k added ≡ true → is_some (kept k) ≡ true
+  added-kept k there =
+      kept-named k ∙ added-or-other es k ∙ ap (λ b. b || has_key k (other_keys es)) (sym (has-reverse k (added_keys es)) ∙ there)
 
-    same : (k : Key) → list_any (key_eq k) (changed_keys (front ++ back)) ≡ list_any (key_eq k) (keys entries)
-    same k =
-        keys-any k (front ++ back)
-        ∙ list_any-append (λ c. always c.moved && key_eq k (key_of c.named)) front back
-        ∙ ap (λ b. b || tally always k back) (tallied always k new.items marks front pass)
-        ∙ ap (λ b. (has_at k new.items && mark_is always (marks k)) || b)
-        (removed-any k es left ∙ ap (λ r. is_some r && list_any (key_eq k) (keys entries)) (after-at new.items marks k))
-        ∙ by (has_at k new.items) (marks k) (list_any (key_eq k) (keys entries)) (sought-is k)
-      where
-        by : (has : Bool) (r : Option Bool) (any : Bool) → is_some r ≡ any → ((has && mark_is always r) || (is_some (cond has None r) && any)) ≡ any
-        by true None any h = h
-        by true (Some w) any h = h
-        by false None any h = h
-        by false (Some w) any h = refl
+  left-is : (k : Key) → left k ≡ cond (has_key k added) None (kept k)
+  left-is k = left-at added kept k
 
-    distinct-keys : AreDistinctKeys (changed_keys (front ++ back))
-    distinct-keys =
-        distinct new.items back (removed-distinct es left) marks front pass
-        (λ k none. keys-any k back ∙ removed-any k es left ∙ ap (λ r. is_some r && list_any (key_eq k) (keys entries)) none)
+  -- ---- which entries
 
-    not-there : (c : EntryChange) → IsRemoved left c → HasBody new c
-    not-there c h =
-        absent new.items (key_of c.named) (out (has_at (key_of c.named) new.items) (sym (ap is_some (after-at new.items marks (key_of c.named))) ∙ h.mark))
-        ∙ sym h.body
-      where
-        out : (b : Bool) → is_some (cond b None (marks (key_of c.named))) ≡ true → b ≡ false
-        out true h = absurd (cc)
-        out false h = refl
+  same : (k : Key) → has_change k (reverse (moved ++ others)) ≡ list_any (key_eq k) (keys entries)
+  same k =
+      change-reverse k (moved ++ others)
+      ∙ ap (list_any (key_eq k)) (map-append (λ c. key_of c.named) moved others)
+      ∙ list_any-append (key_eq k) (changed_keys moved) (changed_keys others)
+      ∙ ap (λ b. b || has_change k others) (taken-any k true added kept)
+      ∙ ap (λ b. (is_some (kept k) && has_key k added) || b)
+      (taken-any k false (other_keys es) left ∙ ap (λ r. is_some r && has_key k (other_keys es)) (left-is k))
+      ∙ by (kept k) (has_key k added) (has_key k (other_keys es)) (kept-named k ∙ added-or-other es k ∙ ap (λ b. b || has_key k (other_keys es)) (sym (has-reverse k (added_keys es))))
+      ∙ kept-named k
+    where
+      by : (r : Option (Option (List Command))) (a o : Bool) → is_some r ≡ (a || o) → ((is_some r && a) || (is_some (cond a None r) && o)) ≡ is_some r
+      by None true o h = refl
+      by None false o h = refl
+      by (Some x) true o h = refl
+      by (Some x) false o h = sym h
 
-    bodies-are : AllByRecursion (HasBody new) (front ++ back)
-    bodies-are =
-        each-append (HasBody new) front back
-        (all-weaken (IsPut new.items marks) (HasBody new) (λ c h. h.body) front (all-put new.items marks front pass))
-        (all-weaken (IsRemoved left) (HasBody new) not-there back removed)
+  apart : (k : Key) → has_change k others ≡ true → has_change k moved ≡ false
+  apart k there =
+      taken-any k true added kept
+      ∙ ap (λ b. is_some (kept k) && b) (out (has_key k added) refl)
+      ∙ and-false (is_some (kept k))
+    where
+      out : (b : Bool) → has_key k added ≡ b → has_key k added ≡ false
+      out false off = off
+      out true on =
+          let never : false ≡ true =
+          sym (taken-any k false (other_keys es) left ∙ ap (λ r. is_some r && has_key k (other_keys es)) (left-is k ∙ ap (λ b. cond b None (kept k)) on)) ∙ there in
+          absurd (cc)
 
-    moved-is : (g : List ℕ) → was_moved (front ++ back) g ≡ (has_glyph new g && was_added entries g)
-    moved-is g =
-        ap (λ q. list_any q (front ++ back)) (λ j. λ c. c.moved && glyph-key g (key_of c.named) j)
-        ∙ list_any-append (λ c. itself c.moved && key_eq (Glyph g) (key_of c.named)) front back
-        ∙ ap (λ b. tally itself (Glyph g) front || b) (removed-unmoved (Glyph g) left back removed)
-        ∙ or-false (tally itself (Glyph g) front)
-        ∙ tallied itself (Glyph g) new.items marks front pass
-        ∙ ap (λ b. b && mark_is itself (marks (Glyph g))) (at-glyph g new.items)
-        ∙ ap (λ b. has_glyph new g && b) (added-is g)
+  distinct : AreDistinctKeys (changed_keys (reverse (moved ++ others)))
+  distinct =
+      changes-distinct (moved ++ others)
+      (subst AreDistinctKeys (sym (map-append (λ c. key_of c.named) moved others))
+      (distinct-both (changed_keys moved) (changed_keys others) (taken-distinct true added kept) (taken-distinct false (other_keys es) left) apart))
 
-    in-order : IsInOrder (was_moved (front ++ back)) old new
-    in-order =
-        e.order
-        ∙ ap (λ q. filter q (glyph_names old.items) ++ filter (λ g. was_added entries g || not (has_glyph old g)) (glyph_names new.items)) (λ j. λ g. stays g j)
-        ∙ ap (λ l. filter (λ g. has_glyph new g && not (was_moved (front ++ back) g)) (glyph_names old.items) ++ l)
-        (filter-as (λ g. was_added entries g || not (has_glyph old g)) (λ g. was_moved (front ++ back) g || not (has_glyph old g)) (glyph_names new.items)
-        (λ g there. ap (λ b. b || not (has_glyph old g)) (ap (λ h. h && was_added entries g) (sym there) ∙ sym (moved-is g))))
-      where
-        twice : (h a : Bool) → (h && not a) ≡ (h && not (h && a))
-        twice true a = refl
-        twice false a = refl
+  -- ---- their bodies
 
-        stays : (g : List ℕ) → (has_glyph new g && not (was_added entries g)) ≡ (has_glyph new g && not (was_moved (front ++ back) g))
-        stays g = twice (has_glyph new g) (was_added entries g) ∙ ap (λ b. has_glyph new g && not b) (sym (moved-is g))
+  was-left : (k : Key) (body : Option (List Command)) → left k ≡ Some body → (has_key k added ≡ false) × (kept k ≡ Some body)
+  was-left k body is = by (has_key k added) refl (sym (left-is k) ∙ is) where
+    by : (b : Bool) → has_key k added ≡ b → cond b None (kept k) ≡ Some body → (has_key k added ≡ false) × (kept k ≡ Some body)
+    by true on h = absurd (cc)
+    by false off h = (off, h)
 
-    last-are : filter (λ g. was_moved (front ++ back) g || not (has_glyph old g)) (glyph_names new.items) ≡ last_glyphs old (front ++ back)
-    last-are =
-        filter-as (λ g. was_moved (front ++ back) g || not (has_glyph old g)) (λ g. mark_is itself (marks (Glyph g)) || not (has_glyph old g)) (glyph_names new.items)
-        (λ g there. ap (λ b. b || not (has_glyph old g)) (moved-is g ∙ ap (λ h. h && was_added entries g) there ∙ sym (added-is g)))
-        ∙ all-last old marks new.items (names_distinct new e.well) there-before marks front pass (λ g there. refl)
-        ∙ sym (last-append old front back ∙ ap (λ l. last_glyphs old front ++ l) (removed-last old left back removed) ∙ append-nil (last_glyphs old front))
+  its-body : (c : EntryChange) → kept (key_of c.named) ≡ Some c.body → HasBody new c
+  its-body c is = e.bodies (key_of c.named) c.body (sym (kept-is (key_of c.named)) ∙ is)
 
-    all-right : AreBatchChanges old new (keys entries) (front ++ back)
-    all-right = record {
-      same = same;
-      edited = same_edited (keys entries) (changed_keys (front ++ back)) (λ k. sym (same k)) old new e.edited;
-      keys = distinct-keys;
-      bodies = bodies-are;
-      compiled = checked-all ∙ ap unit put;
-      order = in-order;
-      last = last-are;
-    }
+  their-bodies : AllByRecursion (HasBody new) (reverse (moved ++ others))
+  their-bodies =
+      all-reverse (HasBody new) (moved ++ others)
+      (each-append (HasBody new) moved others
+      (all-weaken (IsTaken kept true) (HasBody new) (λ c h. its-body c h.body) moved (each-taken true added kept))
+      (all-weaken (IsTaken left false) (HasBody new) (λ c h. its-body c (was-left (key_of c.named) c.body h.body).1) others (each-taken false (other_keys es) left)))
 
-  made : (cs : List EntryChange) → changes_by es new.items ≡ Ok cs → AreBatchChanges old new (keys entries) cs
-  made cs reported =
-      let p = put-ok (items_put marks new.items) back cs reported in
-      subst (AreBatchChanges old new (keys entries)) (sym p.2) (all-right p.0 p.1)
+  -- ---- the glyphs that were added
 
-  pub batch-reported : (result : Result (Vec EntryChange Global) Refusal) → Gives (λ changes. changes.items) result (changes_by es new.items)
-      → MatchResult result (λ changes. AreBatchChanges old new (keys entries) changes.items) (λ refusal. Refuses refusal (file_check new))
-  batch-reported (Ok changes) reported = made changes.items reported
-  batch-reported (Err refusal) reported = refused refusal reported
+  added-is : (g : List ℕ) → was_added entries g ≡ has_key (Glyph g) added
+  added-is g =
+      ap (λ (p : Key → Bool). list_any (λ x. x.added && p x.key) entries) (λ j. λ k. glyph-key g k j) ∙ added-any es (Glyph g) ∙ sym (has-reverse (Glyph g) (added_keys es))
+
+  moved-is : (g : List ℕ) → was_moved (reverse (moved ++ others)) g ≡ was_added entries g
+  moved-is g =
+      moved-reverse (λ c. c.moved && is_key_of g (key_of c.named)) (moved ++ others)
+      ∙ list_any-append (λ c. c.moved && is_key_of g (key_of c.named)) moved others
+      ∙ ap (λ b. b || list_any (λ c. c.moved && is_key_of g (key_of c.named)) others)
+      (moved-any g true moved (all-weaken (IsTaken kept true) (λ c. c.moved ≡ true) (λ c h. h.moves) moved (each-taken true added kept)))
+      ∙ ap (λ b. list_any (is_key_of g) (changed_keys moved) || b)
+      (moved-any g false others (all-weaken (IsTaken left false) (λ c. c.moved ≡ false) (λ c h. h.moves) others (each-taken false (other_keys es) left)))
+      ∙ or-false (list_any (is_key_of g) (changed_keys moved))
+      ∙ ap (λ (p : Key → Bool). list_any p (changed_keys moved)) (λ j. λ k. glyph-key g k j)
+      ∙ taken-any (Glyph g) true added kept
+      ∙ all-kept (has_key (Glyph g) added) refl
+      ∙ sym (added-is g)
+    where
+      all-kept : (b : Bool) → has_key (Glyph g) added ≡ b → (is_some (kept (Glyph g)) && has_key (Glyph g) added) ≡ has_key (Glyph g) added
+      all-kept true on = ap (λ b. b && has_key (Glyph g) added) (added-kept (Glyph g) on)
+      all-kept false off = ap (λ b. is_some (kept (Glyph g)) && b) off ∙ and-false (is_some (kept (Glyph g))) ∙ sym off
+
+  in-order : IsInOrder (was_moved (reverse (moved ++ others))) old new
+  in-order =
+      order-as (was_added entries) (was_moved (reverse (moved ++ others))) (glyph_names old.items) (glyph_names new.items) (λ g. sym (moved-is g)) e.order
+
+  -- ---- the glyphs that stand last
+
+  abbrev is-last : List ℕ → Bool
+  is-last g = was_added entries g || not (has_glyph old g)
+
+  -- a glyph with a body stands there
+  has-name : (g : List ℕ) → is_some (body_at (bodies new.items) (Glyph g)) ≡ has_glyph new g
+  has-name g = present new.items fine g
+
+  -- a glyph that stands there and that no edit added was there before
+  was-there : (g : List ℕ) → has_glyph new g ≡ true → has_key (Glyph g) added ≡ false → (b : Bool) → has_glyph old g ≡ b → has_glyph old g ≡ true
+  was-there g there none true on = on
+  was-there g there none false off =
+      let named : list_any (key_eq (Glyph g)) (added_last_first entries) ≡ true =
+      named-back g (added_last_first entries)
+      (passed (has_glyph new) g (names_back (added_last_first entries))
+      (sym (ap (list_any (bytes_eq g)) e.last)
+      ∙ among-passing is-last g (glyph_names new.items) there (ap (λ b. was_added entries g || not b) off ∙ or-true (was_added entries g))))
+      in
+      let never : true ≡ false = sym named ∙ sym (among-added (Glyph g)) ∙ none in
+      absurd (cc)
+
+  other-last : (c : EntryChange) → IsTaken left false c → last_glyph old c.moved c.body c.named ≡ []
+  other-last c h = by c.named c.body (was-left (key_of c.named) c.body h.body).0 (its-body c (was-left (key_of c.named) c.body h.body).1) ∙ refl where
+    by : (d : OwnedKey) (body : Option (List Command)) → has_key (key_of d) added ≡ false → body_at (bodies new.items) (key_of d) ≡ body → last_glyph old c.moved body d ≡ []
+    by d None none is = refl
+    by (named.Subr n) (Some body) none is = refl
+    by (named.Glyph g) (Some body) none is =
+        ap (λ b. cond (b || not (has_glyph old g)) (g ∷ []) []) h.moves
+        ∙ ap (λ b. cond (not b) (g ∷ []) [])
+        (was-there g (sym (has-name g) ∙ ap is_some is) none (has_glyph old g) refl)
+
+  last-are : filter (λ g. was_moved (reverse (moved ++ others)) g || not (has_glyph old g)) (glyph_names new.items) ≡ last_glyphs old (reverse (moved ++ others))
+  last-are =
+      filter-as (λ g. was_moved (reverse (moved ++ others)) g || not (has_glyph old g)) is-last (glyph_names new.items)
+      (λ g there. ap (λ b. b || not (has_glyph old g)) (moved-is g))
+      ∙ e.last
+      ∙ filter-as (has_glyph new) (λ g. has_body (kept (Glyph g))) (names_back (added_last_first entries))
+      (λ g there. sym (with-body g (added-kept (Glyph g) (among-added (Glyph g) ∙ named-back g (added_last_first entries) there))))
+      ∙ sym (ap (λ l. filter (λ g. has_body (kept (Glyph g))) (names_back l)) (added-back es))
+      ∙ sym (names-last old added kept)
+      ∙ sym (ap (last_glyphs old) (reverse-append moved others)
+      ∙ last-append old (reverse others) (reverse moved)
+      ∙ ap (λ l. l ++ last_glyphs old (reverse moved))
+      (none-last old (reverse others)
+      (all-reverse (λ c. last_glyph old c.moved c.body c.named ≡ []) others
+      (all-weaken (IsTaken left false) (λ c. last_glyph old c.moved c.body c.named ≡ []) other-last others (each-taken false (other_keys es) left)))))
+    where
+      with-body : (g : List ℕ) → is_some (kept (Glyph g)) ≡ true → has_body (kept (Glyph g)) ≡ has_glyph new g
+      with-body g some = by (kept (Glyph g)) refl some where
+        by : (r : Option (Option (List Command))) → kept (Glyph g) ≡ r → is_some r ≡ true → has_body r ≡ has_glyph new g
+        by None is h = absurd (cc)
+        by (Some None) is h = ap is_some (sym (e.bodies (Glyph g) None (sym (kept-is (Glyph g)) ∙ is))) ∙ has-name g
+        by (Some (Some body)) is h = ap is_some (sym (e.bodies (Glyph g) (Some body) (sym (kept-is (Glyph g)) ∙ is))) ∙ has-name g
+
+  pub batch-changes : AreBatchChanges old new (keys entries) (changes_by es)
+  batch-changes = record {
+    same = same;
+    edited = same_edited (keys entries) (changed_keys (reverse (moved ++ others))) (λ k. sym (same k)) old new e.edited;
+    keys = distinct;
+    bodies = their-bodies;
+    compiled = fine;
+    order = in-order;
+    last = last-are;
+  }

@@ -1,43 +1,61 @@
 -- What the edits of a batch make of its source, in the words of the calls that make and judge them.
-use Rattle.std.specs.Prelude.{◌≡◌, ◌⊎◌, ◌++◌, ◌&&◌, ◌||◌, ℕ, Bool, not, List, filter, Result, Ok, Err}
+use Rattle.std.specs.Prelude.{◌≡◌, ◌++◌, ◌∷◌, [], ◌&&◌, ◌||◌, ℕ, Bool, false, not, List, filter, reverse, if◌then◌else◌, Option, Some, None, Result, Ok, Err}
 use Rattle.std.specs.List.{list_any, AllByRecursion}
-use Rattle.t1_parts.specs.declared.item.Item.{Item}
+use Rattle.std.specs.Option.{option_or}
+use Rattle.std.specs.Str.{bytes_eq}
+use Rattle.t1_code.specs.declared.command.Command.{Command}
 use Rattle.t1_parts.specs.SourceParts.{SourceParts}
 use Rattle.t1_source.specs.declared.edit.Cause.{Cause}
 use Rattle.t1_source.specs.declared.edit.Edit.{Edit}
 use Rattle.t1_source.specs.Editing.{edited}
 use Rattle.t1_source.specs.WellFormed.{IsWellFormed}
-use Rattle.t1_run.specs.Run.{Key}
-use Rattle.t1_run.specs.RunKeys.{key_eq}
+use Rattle.t1_run.specs.Run.{Key, Subr, Glyph}
+use Rattle.t1_run.specs.RunKeys.{body_at, key_eq}
 use Rattle.t1_run.specs.Touched.{is_key_of}
-use Rattle.t1_font.specs.Bodies.{bodies_check, body_check}
+use Rattle.t1_font.specs.Bodies.{bodies, bodies_check}
 use Rattle.t1_font.specs.Glyphs.{glyph_names}
 use Rattle.t1_cache.specs.Edited.{IsEditedAt}
-use Rattle.t1_cache.specs.Laws.{IsKeyAmong}
 use Rattle.t1_rerun.specs.declared.entry_change.EntryChange.{EntryChange}
 use Rattle.t1_rerun.specs.Right.{has_glyph, IsInOrder}
 use Rattle.t1_rerun.specs.Settled.{changed_keys, last_glyphs, was_moved, AreDistinctKeys, HasBody}
 use Rattle.t1_source.specs.declared.edit.Cause.TheVariants as causes
-use Rattle.t1_held.specs.Batch.{EntryEdit, edited_entries, Draft, keys}
+use Rattle.t1_charstrings.specs.Beside.{IsKeptBeside}
+use Rattle.t1_held.specs.Batch.{EntryEdit, body_of, count_begin, edited_entries, has_fault, Draft, DraftedBatch, keys}
 
 -- word, batches: some edit added the glyph
 abbrev pub was_added : List EntryEdit → List ℕ → Bool
 was_added entries g = list_any (λ e. e.added && is_key_of g e.key) entries
 
--- word, batches: the entry is named, or its body has no fault
-abbrev pub IsSoundBut : List Key → Item → Type 0
-IsSoundBut ks item = IsKeyAmong ks item ⊎ (body_check item ≡ Ok tt)
+-- word, batches: the keys of the entries that edits added, the last one first
+abbrev pub added_last_first : List EntryEdit → List Key
+added_last_first entries = reverse (keys (filter (λ e. e.added) entries))
+
+-- word, batches: the names of glyphs, each once, by keys of which the first one stands last
+abbrev pub names_back : List Key → List (List ℕ)
+names_back [] = []
+names_back (Glyph g ∷ ks) = filter (λ x. not (bytes_eq g x)) (names_back ks) ++ g ∷ []
+names_back (Subr n ∷ ks) = names_back ks
+
+-- word, batches: the body of an entry after the last edit that names it, where one does
+abbrev pub last_body : List EntryEdit → Key → Option (Option (List Command))
+last_body [] k = None
+last_body (e ∷ es) k = option_or (last_body es k) (if key_eq k e.key then Some (body_of e.after) else None)
 
 -- word, batches: edits that name these entries, one after another, made one source of the other
 pub record IsEditedBy (entries : List EntryEdit) (old new : SourceParts) : Type 0 where
   pub edited : IsEditedAt (keys entries) old new
   pub order : IsInOrder (was_added entries) old new
-  pub sound : bodies_check old.items ≡ Ok tt → AllByRecursion (IsSoundBut (keys entries)) new.items
+  pub last :
+      filter (λ g. was_added entries g || not (has_glyph old g)) (glyph_names new.items)
+      ≡ filter (has_glyph new) (names_back (added_last_first entries))
+  pub bodies : (k : Key) (body : Option (List Command)) → last_body entries k ≡ Some body → body_at (bodies new.items) k ≡ body
+  pub sound : bodies_check old.items ≡ Ok tt → has_fault entries ≡ false → bodies_check new.items ≡ Ok tt
   pub well : IsWellFormed new
 
--- word, batches: the draft of a batch on this source
-abbrev pub IsDraftOf : SourceParts → Draft → Type 0
-IsDraftOf s draft = IsEditedBy draft.entries s draft.source
+-- word, batches: a batch on this source
+pub record IsDraftOf (s : SourceParts) (batch : DraftedBatch) : Type 0 where
+  pub edited : IsEditedBy batch.draft.entries s batch.draft.source
+  pub beside : IsKeptBeside s count_begin batch.draft.source batch.beside
 
 -- word, batches: an edit was made in a batch, and its entry was noted; or it broke a rule, which changes nothing, as want
 -- of memory does

@@ -1,5 +1,5 @@
 -- Edits of a source, and what they make of it.
-use Rattle.std.specs.Prelude.{◌≡◌, List, Ok, IfSome}
+use Rattle.std.specs.Prelude.{◌≡◌, ℕ, List, Option, None, Some, Ok, IfSome}
 use Rattle.std.specs.List.{list_any, AllByRecursion}
 use Rattle.t1_parts.specs.SourceParts.{SourceParts}
 use Rattle.t1_source.specs.declared.edit.Edit.{Edit}
@@ -14,6 +14,7 @@ use Rattle.t1_run.specs.RunKeys.{key_eq}
 use Rattle.t1_font.specs.Assembly.{file_check}
 use Rattle.t1_font.specs.Bodies.{bodies_check}
 use Rattle.t1_font.specs.Glyphs.{glyph_names}
+use Rattle.t1_charstrings.specs.Beside.{IsKeptBeside}
 use Rattle.t1_cache.specs.Edited.{IsEditedAt}
 use Rattle.t1_rerun.specs.declared.entry_change.EntryChange.{EntryChange}
 use Rattle.t1_rerun.specs.Changing.{AreChangesOf}
@@ -39,6 +40,11 @@ pub record AreChanges (s made : SourceParts) (ks : List Key) (h : Held) (changes
   pub compiled : bodies_check made.items ≡ Ok tt
   pub prepared : file_check made ≡ Ok tt → AreChangesOf changes s made h.records (glyph_names made.items)
 
+-- word, edits: of a batch it is known how long the private text was, with what the batch changed beside its charstrings
+abbrev pub IsKnownBeside : Option Change → SourceParts → ℕ → SourceParts → Option ℕ → Type 0
+IsKnownBeside (Some change) s len made beside = Unit {0}
+IsKnownBeside None s len made beside = IsWellFormed s × IsKeptBeside s len made beside
+
 -- word, edits: edits at these keys keep the edit rules and make this source of one of which this is held
 pub record AreRight (ks : List Key) (new : SourceParts) (h : Held) (edits : Edits) : Type 0 where
   pub held : IsHeld edits.source.now h
@@ -46,6 +52,7 @@ pub record AreRight (ks : List Key) (new : SourceParts) (h : Held) (edits : Edit
   pub made : made_of edits.made ≡ new
   pub source : IfSome edits.made.change (λ change. (edits.made.source ≡ edits.source.now) × IsFor change edits.source.now)
   pub changes : AreChanges edits.source.now new ks h edits.changes.items
+  pub beside : IsKnownBeside edits.made.change edits.source.now h.private_len edits.made.source edits.beside
 
 -- word, edits: there are such keys and such a source
 abbrev pub MayBeRight : Held → Edits → Type 0

@@ -31,7 +31,7 @@ mod hints;
 pub mod laws;
 mod preparing;
 
-pub use batch::{Batch, EditedEntry, batch_changes};
+pub use batch::{AfterEdit, Batch, BatchEdits, EditedEntry, batch_changes};
 pub use files::write_held_file;
 pub use held::{Held, ReadyHeld, held_metrics, held_of, settle};
 pub use hints::hint_of;

@@ -15,6 +15,7 @@ ghost use Rattle.t1_font.specs.OwnedKeys.{key_of};
 ghost use Rattle.t1_font.specs.Runs.{Counts};
 ghost use Rattle.t1_font.specs.SourceChecks.{source_check};
 ghost use Rattle.t1_charstrings.specs.Batch.{AreEdits};
+ghost use Rattle.t1_charstrings.specs.Beside.{IsKeptBeside};
 ghost use Rattle.t1_charstrings.specs.Changed.{AreSameCharstrings};
 ghost use Rattle.t1_charstrings.specs.Kept.{charstring_at};
 ghost use Rattle.t1_charstrings.specs.Prepared.{IsMadeOf};
@@ -22,7 +23,7 @@ ghost use Rattle.t1_charstrings.specs.Ready.{IsReadyLines};
 ghost use Rattle.t1_cache.specs.EditKeys.{named};
 ghost use Rattle.t1_cache.specs.Recorded.{kept_of};
 ghost use Rattle.t1_rerun.specs.Settled.{changed_keys};
-ghost use Rattle.t1_held.specs.Batch.{entry_edit, keys};
+ghost use Rattle.t1_held.specs.Batch.{count_begin, entry_edit, keys};
 ghost use Rattle.t1_held.specs.Drafting.{IsEditedBy};
 ghost use Rattle.t1_held.specs.Edits.{AreChanges, AreRight, IsPreparedEdit, MayBeRight};
 ghost use Rattle.t1_held.specs.Entries.{fresh_in, fresh_one, gone_keys};
@@ -30,7 +31,7 @@ ghost use Rattle.t1_held.specs.declared.held.Held.{Held};
 ghost use Rattle.t1_held.specs.Held.{IsHeld};
 ghost use Rattle.t1_held.specs.Ready.{commit_runs, EncryptsAt, IsReadyHeld};
 
-use crate::batch::{EditedEntry, batch_changes};
+use crate::batch::{BatchEdits, COUNT_BEGIN, EditedEntry, batch_changes};
 use crate::held::{Held, ReadyHeld};
 use std::alloc::{AllocError, Global};
 use t1_charstrings::{
@@ -42,16 +43,18 @@ use t1_frac::Refusal;
 use t1_pairs::Pairs;
 use t1_rerun::{EntryChange, change_alone, change_of_edit, prepare_changes};
 use t1_run::Meter;
-use t1_source::laws::text_of_source_read;
+use t1_source::laws::{source_is_well_formed, text_of_source_read};
 use t1_source::{Change, Edit, EditedSource, Source};
 
 /// Edits that keep the edit rules: the source that is edited, the one that they make of it, and
-/// what they change of the entries that they name, each once. A single edit is a batch of one.
+/// what they change of the entries that they name, each once. A single edit is a batch of one. Of a
+/// batch it holds how long the private text was, with what it changed beside the charstrings.
 #[derive(Drop)]
 struct Edits<'e, 'a> {
     source: &'e Source<'a>,
     made: EditedSource<'e, 'a>,
     changes: Vec<EntryChange>,
+    beside: Option<usize>,
 }
 
 /// The entry that one edit names, where it names one, with its body after it; or the fault of the
@@ -184,11 +187,12 @@ fn lines_of_edits(
     alloc: Global,
     charstrings: &mut Charstrings,
     private_len: usize,
+    beside: Option<usize>,
     source: &Source,
     made: &EditedSource,
     changes: &[EntryChange],
 ) -> Result<ReadyLines, Refusal>
-    requires prepared { IsMadeOf source.now private_len made.now }
+    requires prepared { IsMadeOf source.now private_len beside made.now }
     requires edits { (entries : EditedEntries)
         → ((k : Key) → charstring_at entries.fresh k ≡ fresh_in (lead source.now) changes.now k)
         → map key_of entries.gone.items ≡ gone_keys changes.now
@@ -205,7 +209,7 @@ fn lines_of_edits(
     if made.may_set_lead(source) {
         return prepare_anew(alloc, made);
     }
-    prepare_lines(charstrings, private_len, source, made, entries)
+    prepare_lines(charstrings, private_len, beside, source, made, entries)
 }
 
 /// Judges the source that edits make, whose bodies have no fault, by its first fault, and makes all
@@ -240,11 +244,13 @@ fn prepare_edits(
         source,
         made,
         changes,
+        beside,
     } = edits;
     let lines = lines_of_edits(
         alloc,
         &mut held.charstrings,
         held.private_len,
+        beside,
         source,
         &made,
         &changes,
@@ -263,13 +269,13 @@ fn prepare_edits(
 /// glyphs that the edit makes stale are run, each once, and no others; only the entry that it names
 /// is compiled and encrypted, unless lenIV was set. What was kept stays, also where the source is
 /// refused or memory runs out.
-pub fn prepare_edit(
+pub fn prepare_edit<'e, 'a>(
     alloc: Global,
     held: &mut Held,
-    source: &Source,
+    source: &'e Source<'a>,
     pairs: &Pairs,
     edit: &Edit,
-    change: &Change,
+    change: &'e Change<'a>,
     meter: &mut Meter,
 ) -> Result<ReadyHeld, Refusal>
     requires { IsPreparedEdit source.now pairs.now edit.now change.now held.old }
@@ -294,44 +300,60 @@ pub fn prepare_edit(
         source,
         made,
         changes,
+        beside: None,
     };
     prepare_edits(alloc, held, edits, meter)
+}
+
+/// How long the private text was, with what a batch changed beside the charstrings, by its count;
+/// `None` where this was given up.
+fn len_of_count(private_len: usize, beside: Option<usize>) -> Option<usize>
+    ensures { (s made : SourceParts)
+        → IsKeptBeside s count_begin made beside
+        → IsKeptBeside s private_len made result }
+{
+    beside?.checked_add(private_len)?.checked_sub(COUNT_BEGIN)
 }
 
 /// Judges the source that the edits of a batch made by its first fault, and makes all that is to be
 /// kept of it. The glyphs that the edits make stale are run, each once, and no others; only entries
 /// that they name are compiled and encrypted, unless lenIV is another one. What was kept stays,
 /// also where the source is refused or memory runs out.
-pub fn prepare_batch(
+pub fn prepare_batch<'e, 'a>(
     alloc: Global,
     held: &mut Held,
-    source: &Source,
-    made: &Source,
-    entries: Vec<EditedEntry>,
+    source: &'e Source<'a>,
+    made: &'e Source<'a>,
+    edits: BatchEdits,
     meter: &mut Meter,
 ) -> Result<ReadyHeld, Refusal>
     requires held { IsHeld source.now held.old }
-    requires edited { IsEditedBy (map entry_edit entries.items) source.now made.now }
+    requires edited { IsEditedBy (map entry_edit edits.entries.items) source.now made.now }
+    requires beside { IsKeptBeside source.now count_begin made.now edits.beside }
     ensures checked { Gives (λ _. tt) result (source_check made.now) }
     ensures ready { IfOk result
-        (IsReadyHeld meter.old (keys (map entry_edit entries.items)) source.now made.now
+        (IsReadyHeld meter.old (keys (map entry_edit edits.entries.items)) source.now made.now
         held.new) }
     ensures encrypted { IfOk result
         (λ ready. lead made.now ≡ lead source.now
-        → EncryptsAt (keys (map entry_edit entries.items)) ready.lines.charstrings) }
+        → EncryptsAt (keys (map entry_edit edits.entries.items)) ready.lines.charstrings) }
     ensures held { (s : SourceParts) → IsHeld s held.old → IsHeld s held.new }
     ensures kept { map kept_of held.new.records.glyphs.entries
         ≡ map kept_of held.old.records.glyphs.entries }
     ensures counted { Counts
-        (commit_runs (keys (map entry_edit entries.items)) source.now made.now) meter.old meter.new
-        result }
+        (commit_runs (keys (map entry_edit edits.entries.items)) source.now made.now) meter.old
+        meter.new result }
 {
+    let BatchEdits { entries, beside } = edits;
     let changes = changes_of_batch(alloc, source, made, entries)?;
+    source_is_well_formed(source);
+    let beside = len_of_count(held.private_len, beside);
     let made = EditedSource::alone(made);
     let edits = Edits {
         source,
         made,
         changes,
+        beside,
     };
     prepare_edits(alloc, held, edits, meter)
 }

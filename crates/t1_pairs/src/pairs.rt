@@ -4,7 +4,7 @@ use itoa::Buffer;
 use std::alloc::{AllocError, Global};
 use std::collections::BTreeMap;
 use std::marker::Model;
-use t1_buckets::{Buckets, BucketsIter};
+use t1_buckets::{Buckets, BucketsIter, Copied};
 use t1_frac::{Bytes, Code, Refusal, next_word, number_word};
 use t1_text::{fault_on, first_line, is_name, same};
 
@@ -255,11 +255,9 @@ fn push_pair(text: &mut Vec<u8>, pair: &Pair) -> Result<(), AllocError>
     Ok(())
 }
 
-impl Pair {
+impl Copied for Pair {
     /// A copy.
-    pub fn copied(&self, alloc: Global) -> Result<Pair, AllocError>
-        ensures { IfOk result (λ copy. copy ≡ self.now) }
-    {
+    fn copied(&self, alloc: Global) -> Result<Pair, AllocError> {
         let left = Bytes::copied(alloc, self.left.as_slice())?;
         let right = Bytes::copied(alloc, self.right.as_slice())?;
         Ok(Pair {
@@ -270,40 +268,30 @@ impl Pair {
     }
 }
 
-/// Copies of some pairs.
-fn copied_pairs(alloc: Global, pairs: &Buckets<Pair>) -> Result<Buckets<Pair>, AllocError>
-    ensures { IfOk result (λ copies. copies ≡ pairs.now) }
-{
-    let mut copies = Buckets::new(alloc);
-    for pair in pairs.iter() {
-        copies.push(pair.copied(alloc)?)?;
-    }
-    Ok(copies)
-}
-
 impl Pairs {
     /// The allocator of the call that made them, for what `t1_source` puts in.
     pub fn alloc(&self) -> Global {
         self.alloc
     }
 
-    /// A copy.
+    /// A copy, which shares the pairs until they are changed.
     pub fn copied(&self) -> Result<Pairs, AllocError>
         ensures { IfOk result (λ copy. copy ≡ self.now) }
     {
         Ok(Pairs {
             alloc: self.alloc,
-            pairs: copied_pairs(self.alloc, &self.pairs)?,
+            pairs: self.pairs.copied()?,
         })
     }
 
-    /// Puts a pair in the place of another.
-    pub fn put(&mut self, at: usize, pair: Pair)
+    /// Puts a pair in the place of another. Where memory runs out, nothing has changed.
+    pub fn put(&mut self, at: usize, pair: Pair) -> Result<(), AllocError>
         requires within { at < length self.old }
         requires made { are_pairs (slice_set self.old at pair) ≡ true }
-        ensures { self.new ≡ slice_set self.old at pair }
+        ensures ok { OnOk result (self.new ≡ slice_set self.old at pair) }
+        ensures err { OnErr result (self.new ≡ self.old) }
     {
-        self.pairs.set(at, pair);
+        self.pairs.set(at, pair)
     }
 
     /// Puts a new pair in. Where memory runs out, nothing has changed.
@@ -316,13 +304,14 @@ impl Pairs {
         self.pairs.insert(at, pair)
     }
 
-    /// Takes a pair out.
-    pub fn remove(&mut self, at: usize)
+    /// Takes a pair out. Where memory runs out, nothing has changed.
+    pub fn remove(&mut self, at: usize) -> Result<(), AllocError>
         requires within { at < length self.old }
         requires made { are_pairs (remove self.old at) ≡ true }
-        ensures { self.new ≡ remove self.old at }
+        ensures ok { OnOk result (self.new ≡ remove self.old at) }
+        ensures err { OnErr result (self.new ≡ self.old) }
     {
-        self.pairs.remove(at);
+        self.pairs.remove(at)
     }
 
     /// How many pairs they are.

@@ -7,10 +7,9 @@ use Rattle.std.proofs.lemmas.List.Elements.{filter-append}
 use Rattle.std.proofs.lemmas.Bool.{or_parts, cases_Bool}
 use Rattle.t1_parts.specs.declared.item.Item.{Item}
 use Rattle.t1_parts.specs.declared.item.Item.TheVariants.{Plain, Section, Subr, Glyph}
-use Rattle.t1_parts.specs.declared.stretch.Stretch.{Stretch}
 use Rattle.t1_parts.specs.Counts.{subrs_needed, glyphs_needed, is_glyph_entry}
 use Rattle.t1_parts.specs.LenIV.{says_lead}
-use Rattle.t1_parts.specs.Items.{items_in, stretch_items, line_items}
+use Rattle.t1_parts.specs.Items.{line_items}
 use Rattle.t1_parts.specs.Stretches.{one_item, line_says, lines_say, stands_alone, StandsAloneAt}
 
 -- lines that say nothing
@@ -20,27 +19,27 @@ silent_filtered [] h = refl
 silent_filtered (l ∷ ls) h = let off = or_parts (line_says l) (lines_say ls) h in rw off.0 (silent_filtered ls off.1)
 
 -- a stretch of which no item stands alone
-pub none_alone : (s : Stretch) (ss : List Stretch) → filter stands_alone (stretch_items s) ≡ [] → filter stands_alone (items_in (s ∷ ss)) ≡ filter stands_alone (items_in ss)
-none_alone s ss h = filter-append stands_alone (stretch_items s) (items_in ss) ∙ ap (λ t. t ++ filter stands_alone (items_in ss)) h
+pub none_alone : (items old new : List Item) → old ≡ items ++ new → filter stands_alone items ≡ [] → filter stands_alone old ≡ filter stands_alone new
+none_alone items old new whole h = ap (filter stands_alone) whole ∙ filter-append stands_alone items new ∙ ap (λ t. t ++ filter stands_alone new) h
 
 -- and of which one does
-pub one_alone : (s : Stretch) (ss : List Stretch) (item : Item) → filter stands_alone (stretch_items s) ≡ item ∷ [] → filter stands_alone (items_in (s ∷ ss)) ≡ item ∷ filter stands_alone (items_in ss)
-one_alone s ss item h = filter-append stands_alone (stretch_items s) (items_in ss) ∙ ap (λ t. t ++ filter stands_alone (items_in ss)) h
+pub one_alone : (items old new : List Item) (item : Item) → old ≡ items ++ new → filter stands_alone items ≡ item ∷ [] → filter stands_alone old ≡ item ∷ filter stands_alone new
+one_alone items old new item whole h = ap (filter stands_alone) whole ∙ filter-append stands_alone items new ∙ ap (λ t. t ++ filter stands_alone new) h
 
 -- lines in front and lines behind
-pub alone_between : (first : Option (Bor Item)) (front back : List (List ℕ)) (ss : List Stretch) → lines_say front ≡ false → lines_say back ≡ false
-    → filter stands_alone (one_item first ++ items_in ss) ≡ filter stands_alone (one_item first ++ (line_items front ++ (items_in ss ++ line_items back)))
+pub alone_between : (first : Option (Bor Item)) (front back : List (List ℕ)) (ss : List Item) → lines_say front ≡ false → lines_say back ≡ false
+    → filter stands_alone (one_item first ++ ss) ≡ filter stands_alone (one_item first ++ (line_items front ++ (ss ++ line_items back)))
 alone_between first front back ss f b =
     let keep = filter stands_alone in
-    filter-append stands_alone (one_item first) (items_in ss)
+    filter-append stands_alone (one_item first) (ss)
     ∙ ap (λ t. keep (one_item first) ++ t) (sym (
-    filter-append stands_alone (line_items front) (items_in ss ++ line_items back)
-    ∙ ap (λ t. t ++ keep (items_in ss ++ line_items back)) (silent_filtered front f)
-    ∙ filter-append stands_alone (items_in ss) (line_items back)
-    ∙ ap (λ t. keep (items_in ss) ++ t) (silent_filtered back b)
-    ∙ append-nil (keep (items_in ss))
+    filter-append stands_alone (line_items front) (ss ++ line_items back)
+    ∙ ap (λ t. t ++ keep (ss ++ line_items back)) (silent_filtered front f)
+    ∙ filter-append stands_alone (ss) (line_items back)
+    ∙ ap (λ t. keep (ss) ++ t) (silent_filtered back b)
+    ∙ append-nil (keep (ss))
     ))
-    ∙ sym (filter-append stands_alone (one_item first) (line_items front ++ (items_in ss ++ line_items back)))
+    ∙ sym (filter-append stands_alone (one_item first) (line_items front ++ (ss ++ line_items back)))
 
 -- ---- what silent lines add nothing to
 

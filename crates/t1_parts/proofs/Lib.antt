@@ -1,4 +1,6 @@
 pub mod AloneLaws
+pub mod BlockLaws
+pub mod BlockSearchLaws
 pub mod BodyLaws
 pub mod CloseLaws
 pub mod CountLaws

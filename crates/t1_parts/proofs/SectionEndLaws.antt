@@ -13,7 +13,7 @@ use Rattle.t1_parts.specs.EntryKeys.{is_section, AreSectionsBefore}
 use Rattle.t1_parts.specs.declared.stretch.Stretch.TheVariants.{One, Lines}
 use Rattle.t1_parts.specs.Items.{items_in, stretch_items}
 use Rattle.t1_parts.specs.Stretches.{raised_stretch, AreSingle}
-use Rattle.t1_parts.proofs.StretchLaws.{in_two, length_set, raised_in}
+use Rattle.t1_parts.proofs.StretchLaws.{length_set}
 
 -- ---- the rest of a list after an edit, where a test finds none in the rest
 
@@ -205,18 +205,12 @@ items_both [] more = refl
 items_both (s ∷ ss) more = ap (λ u. stretch_items s ++ u) (items_both ss more) ∙ sym (append_assoc (stretch_items s) (items_in ss) (items_in more))
 
 -- the stretches behind have no section line
-pub raised_front : (s g n end : ℕ) (ss new : List Stretch) → AreSectionsBefore n (items_in ss) → n ≤ length (items_in (take end ss))
-    → new ≡ map (raised_stretch s g) (take end ss) ++ drop end ss → items_in new ≡ map (raised_item s g) (items_in ss)
-raised_front s g n end ss new h covered made =
-    let front = items_in (take end ss) in
-    let back = items_in (drop end ss) in
-    let whole = in_two end ss in
+pub raised_front : (s g n : ℕ) (all front back new : List Item) → all ≡ front ++ back → AreSectionsBefore n all → n ≤ length front → new ≡ map (raised_item s g) front ++ back → new ≡ map (raised_item s g) all
+raised_front s g n all front back new whole h covered made =
     let none : list_any is_section back ≡ false =
     sym (ap (λ t. list_any is_section (drop (length front) t)) whole ∙ ap (list_any is_section) (past (length front) front back refl))
-    ∙ later_still is_section n (length front) (items_in ss) covered h.1 in
-    ap items_in made
-    ∙ items_both (map (raised_stretch s g) (take end ss)) (drop end ss)
-    ∙ ap (λ t. t ++ back) (raised_in s g (take end ss))
+    ∙ later_still is_section n (length front) all covered h.1 in
+    made
     ∙ ap (λ t. map (raised_item s g) front ++ t) (sym (raised_none s g back none))
     ∙ sym (ap (map (raised_item s g)) whole ∙ mapped_both (raised_item s g) front back)
 

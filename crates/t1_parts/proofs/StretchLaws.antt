@@ -1,7 +1,7 @@
 -- Items by their stretches.
 use Rattle.std.proofs.Common.{◌≡◌, ◌≤◌, ◌<◌, ◌+◌, true, false, suc, zero, ℕ, List, [], ◌∷◌, ◌++◌, length, take, drop, map, Some, None, refl, sym, ◌∙◌, ap, arith}
 use Rattle.std.specs.List.{slice_index_or, slice_set, slice_get, insert, remove}
-use Rattle.std.proofs.lemmas.List.{append_assoc, append-nil, length-append, length-take-le}
+use Rattle.std.proofs.lemmas.List.{append_assoc, append-nil, drop_all, length-append, length-take-le, take_all, take_more}
 use Rattle.std.proofs.lemmas.Bool.{or_parts}
 use Rattle.t1_parts.specs.declared.item.Item.{Item}
 use Rattle.t1_parts.specs.declared.item.Item.TheVariants.{Plain}
@@ -109,22 +109,22 @@ got_past n [] h = refl
 got_past zero (x ∷ xs) h = absurd (omega (arith, h))
 got_past (suc n) (x ∷ xs) h = got_past n xs (omega (arith, h))
 
-drop_append : {X : Type 0} (n : ℕ) (xs ys : List X) → n ≤ length xs → drop n (xs ++ ys) ≡ drop n xs ++ ys
+pub drop_append : {X : Type 0} (n : ℕ) (xs ys : List X) → n ≤ length xs → drop n (xs ++ ys) ≡ drop n xs ++ ys
 drop_append zero xs ys h = refl
 drop_append (suc n) [] ys h = absurd (omega (arith, h))
 drop_append (suc n) (x ∷ xs) ys h = drop_append n xs ys (omega (arith, h))
 
-take_append : {X : Type 0} (n : ℕ) (xs ys : List X) → n ≤ length xs → take n (xs ++ ys) ≡ take n xs
+pub take_append : {X : Type 0} (n : ℕ) (xs ys : List X) → n ≤ length xs → take n (xs ++ ys) ≡ take n xs
 take_append zero xs ys h = refl
 take_append (suc n) [] ys h = absurd (omega (arith, h))
 take_append (suc n) (x ∷ xs) ys h = ap (λ t. x ∷ t) (take_append n xs ys (omega (arith, h)))
 
-take_past : {X : Type 0} (n k : ℕ) (xs ys : List X) → length xs + k ≡ n → take n (xs ++ ys) ≡ xs ++ take k ys
+pub take_past : {X : Type 0} (n k : ℕ) (xs ys : List X) → length xs + k ≡ n → take n (xs ++ ys) ≡ xs ++ take k ys
 take_past n k [] ys e = let same : n ≡ k = omega (arith, e) in ap (λ m. take m ys) same
 take_past zero k (x ∷ xs) ys e = absurd (omega (arith, e))
 take_past (suc n) k (x ∷ xs) ys e = ap (λ t. x ∷ t) (take_past n k xs ys (omega (arith, e)))
 
-drop_past : {X : Type 0} (n k : ℕ) (xs ys : List X) → length xs + k ≡ n → drop n (xs ++ ys) ≡ drop k ys
+pub drop_past : {X : Type 0} (n k : ℕ) (xs ys : List X) → length xs + k ≡ n → drop n (xs ++ ys) ≡ drop k ys
 drop_past n k [] ys e = let same : n ≡ k = omega (arith, e) in ap (λ m. drop m ys) same
 drop_past zero k (x ∷ xs) ys e = absurd (omega (arith, e))
 drop_past (suc n) k (x ∷ xs) ys e = drop_past n k xs ys (omega (arith, e))
@@ -339,7 +339,7 @@ raised_append : (f : Item → Item) (xs ys : List Item) → map f (xs ++ ys) ≡
 raised_append f [] ys = refl
 raised_append f (x ∷ xs) ys = ap (λ t. f x ∷ t) (raised_append f xs ys)
 
-raised_lines : (s g : ℕ) (ls : List (List ℕ)) → map (raised_item s g) (line_items ls) ≡ line_items ls
+pub raised_lines : (s g : ℕ) (ls : List (List ℕ)) → map (raised_item s g) (line_items ls) ≡ line_items ls
 raised_lines s g [] = refl
 raised_lines s g (l ∷ ls) = ap (λ t. Plain l ∷ t) (raised_lines s g ls)
 
@@ -353,3 +353,24 @@ raised_in s g (t ∷ ss) =
     ap (λ u. u ++ items_in (map (raised_stretch s g) ss)) (raised_stretch_items s g t)
     ∙ ap (λ u. map (raised_item s g) (stretch_items t) ++ u) (raised_in s g ss)
     ∙ sym (raised_append (raised_item s g) (stretch_items t) (items_in ss))
+
+-- all stretches with raised counts
+pub all_raised : (s g : ℕ) (ss new : List Stretch) {end : ℕ} → end ≡ length ss → new ≡ map (raised_stretch s g) (take end ss) ++ drop end ss → items_in new ≡ map (raised_item s g) (items_in ss)
+all_raised s g ss new {end} e made =
+    ap items_in (made ∙ ap (λ n. map (raised_stretch s g) (take n ss) ++ drop n ss) e ∙ ap (λ t. map (raised_stretch s g) t ++ drop (length ss) ss) (take_all (length ss) ss (omega arith))
+    ∙ ap (λ t. map (raised_stretch s g) ss ++ t) (drop_all (length ss) ss (omega arith)) ∙ append-nil (map (raised_stretch s g) ss))
+    ∙ raised_in s g ss
+
+-- and one more
+pub raised_more : (s g i : ℕ) (ss : List Stretch) (t : Stretch) → i < length ss → t ≡ slice_index_or ss i t → map (raised_item s g) (items_in (take i ss)) ≡ items_in (take i ss)
+    → map (raised_item s g) (stretch_items t) ≡ stretch_items t → map (raised_item s g) (items_in (take (i + 1) ss)) ≡ items_in (take (i + 1) ss)
+raised_more s g i ss t h is before here =
+    let whole = ap items_in (take_more ss i t h) ∙ in_parts (take i ss) (slice_index_or ss i t) in
+    let there = ap stretch_items is in
+    ap (map (raised_item s g)) whole ∙ raised_append (raised_item s g) (items_in (take i ss)) (stretch_items (slice_index_or ss i t))
+    ∙ ap (λ u. u ++ map (raised_item s g) (stretch_items (slice_index_or ss i t))) before
+    ∙ ap (λ u. items_in (take i ss) ++ u) (ap (map (raised_item s g)) (sym there) ∙ here ∙ there)
+    ∙ sym whole where
+      in_parts : (ts : List Stretch) (u : Stretch) → items_in (ts ++ u ∷ []) ≡ items_in ts ++ stretch_items u
+      in_parts [] u = append-nil (stretch_items u)
+      in_parts (v ∷ ts) u = ap (λ k. stretch_items v ++ k) (in_parts ts u) ∙ sym (append_assoc (stretch_items v) (items_in ts) (stretch_items u))

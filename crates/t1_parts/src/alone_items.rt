@@ -1,33 +1,30 @@
 //! The items that never stand among plain lines.
 
 ghost use Rattle.std.specs.Prelude.{◌≡◌, ◌++◌, filter};
-ghost use Rattle.t1_parts.specs.Items.{items_in};
 ghost use Rattle.t1_parts.specs.Stretches.{one_item, stands_alone, IsNextAlone};
 
 use crate::item::Item;
 use crate::private::line_says;
-use crate::stretch::Stretch;
+use crate::stretches_left::StretchesLeft;
 use std::marker::Model;
-use std::slice;
 
 /// The items that are left but for the plain lines that say nothing of lenIV, one after another.
 /// Contracts see their list.
 #[derive(Drop)]
 pub struct AloneItems<'i, 'a> {
     first: Option<&'i Item<'a>>,
-    stretches: slice::Iter<'i, Stretch<'a>>,
+    stretches: StretchesLeft<'i, 'a>,
 }
 
 impl<'i, 'a> Model for AloneItems<'i, 'a> {
     ghost use Rattle.std.specs.Prelude.{List, ◌++◌, filter};
     ghost use Rattle.t1_parts.specs.declared.item.Item.{Item};
-    ghost use Rattle.t1_parts.specs.Items.{items_in};
     ghost use Rattle.t1_parts.specs.Stretches.{one_item, stands_alone};
 
     ghost Value = { List Item };
 
     ghost view = { λ left.
-        filter stands_alone (one_item left.first ++ items_in left.stretches.rest.now) };
+        filter stands_alone (one_item left.first ++ left.stretches) };
 }
 
 /// Whether an item never stands among plain lines.
@@ -44,11 +41,11 @@ pub(crate) fn stands_alone(item: &Item) -> bool
 }
 
 /// The next item of some stretches that never stands among plain lines.
-fn next_alone<'i, 'a>(stretches: &mut slice::Iter<'i, Stretch<'a>>) -> Option<&'i Item<'a>>
-    ensures { IsNextAlone (items_in stretches.old.rest.now) result
-        (items_in stretches.new.rest.now) }
+#[inline(always)]
+fn next_alone<'i, 'a>(stretches: &mut StretchesLeft<'i, 'a>) -> Option<&'i Item<'a>>
+    ensures { IsNextAlone stretches.old result stretches.new }
 {
-    while let Some(stretch) = stretches.next() {
+    while let Some(stretch) = stretches.next_stretch() {
         if let Some(item) = stretch.alone() {
             return Some(item);
         }
@@ -58,12 +55,8 @@ fn next_alone<'i, 'a>(stretches: &mut slice::Iter<'i, Stretch<'a>>) -> Option<&'
 
 impl<'i, 'a> AloneItems<'i, 'a> {
     /// Those of an item and of some stretches.
-    pub(crate) fn among(
-        first: Option<&'i Item<'a>>,
-        stretches: slice::Iter<'i, Stretch<'a>>,
-    ) -> Self
-        ensures { result
-            ≡ filter stands_alone (one_item first.entry ++ items_in stretches.entry.rest.now) }
+    pub(crate) fn among(first: Option<&'i Item<'a>>, stretches: StretchesLeft<'i, 'a>) -> Self
+        ensures { result ≡ filter stands_alone (one_item first.entry ++ stretches.entry) }
     {
         AloneItems { first, stretches }
     }
@@ -79,6 +72,7 @@ impl<'i, 'a> Iterator for AloneItems<'i, 'a> {
     ghost remaining = { item_count (λ left. left) };
 
     /// The next item.
+    #[inline(always)]
     fn next(&mut self) -> Option<&'i Item<'a>> {
         if let Some(item) = self.first {
             self.first = None;

@@ -42,7 +42,6 @@ const BYTES_OF_AN_ITEM: usize = 256;
 pub struct Gathered<'a> {
     numbers: Vec<u64>,
     stretches: Vec<Stretch<'a>>,
-    are_single: bool,
     has_subrs_line: bool,
     has_glyphs_line: bool,
     subrs: BTreeSet<u16>,
@@ -54,7 +53,6 @@ impl<'a> Model for Gathered<'a> {
     ghost use Rattle.t1_parts.specs.Sections.{is_subrs_line, is_glyphs_line};
     ghost use Rattle.t1_parts.specs.Entries.{NumberedItem, has_numbered};
     ghost use Rattle.t1_parts.specs.Gathered.{HasNumbers, AreGlyphsNames};
-    ghost use Rattle.t1_parts.specs.Stretches.{AreSingle};
     ghost use Rattle.t1_parts.specs.NumberedStretches.{numbered_in};
 
     ghost Value = { List NumberedItem };
@@ -68,8 +66,7 @@ impl<'a> Model for Gathered<'a> {
         ≡ has_numbered is_glyphs_line (numbered_in g.numbers.items g.stretches.items))
         × HasNumbers g.subrs.keys (numbered_in g.numbers.items g.stretches.items)
         × AreGlyphsNames g.glyphs.keys (numbered_in g.numbers.items g.stretches.items)
-        × (length g.numbers.items ≡ length g.stretches.items)
-        × (g.are_single ≡ true → AreSingle g.stretches.items) };
+        × (length g.numbers.items ≡ length g.stretches.items) };
 }
 
 /// The first item of some stretches that says lenIV, with its number.
@@ -162,7 +159,6 @@ impl<'a> Gathered<'a> {
         Ok(Gathered {
             numbers: Vec::with_capacity(alloc, room)?,
             stretches: Vec::with_capacity(alloc, room)?,
-            are_single: true,
             has_subrs_line: false,
             has_glyphs_line: false,
             subrs: BTreeSet::new(alloc),
@@ -214,13 +210,12 @@ impl<'a> Gathered<'a> {
         let Gathered {
             numbers: _numbers,
             stretches,
-            are_single,
             has_subrs_line: _,
             has_glyphs_line: _,
             subrs: _subrs,
             glyphs: _glyphs,
         } = self;
-        Items::of_stretches(stretches, are_single)
+        Items::of_stretches(stretches)
     }
 
     /// The items and some plain lines that stand together, of which the first has this number.
@@ -230,7 +225,6 @@ impl<'a> Gathered<'a> {
         let Gathered {
             mut numbers,
             mut stretches,
-            are_single: _,
             has_subrs_line,
             has_glyphs_line,
             subrs,
@@ -240,7 +234,6 @@ impl<'a> Gathered<'a> {
         Ok(Gathered {
             numbers,
             stretches,
-            are_single: false,
             has_subrs_line,
             has_glyphs_line,
             subrs,
@@ -293,7 +286,6 @@ impl<'a> Gathered<'a> {
         let Gathered {
             mut numbers,
             mut stretches,
-            are_single,
             has_subrs_line,
             has_glyphs_line,
             mut subrs,
@@ -313,7 +305,6 @@ impl<'a> Gathered<'a> {
         Ok(Gathered {
             numbers,
             stretches,
-            are_single,
             has_subrs_line,
             has_glyphs_line,
             subrs,

@@ -1,7 +1,7 @@
 //! The items of a private part in memory.
 
 ghost use Rattle.std.specs.Prelude.{◌≡◌, ◌<◌, ◌≤◌, ◌^◌, ◌++◌, ◌∷◌, ◌||◌, [], false, true, length};
-ghost use Rattle.std.specs.Prelude.{map, take, drop, slice_set, IfOk, OnOk, OnErr, IsOk};
+ghost use Rattle.std.specs.Prelude.{map, take, drop, slice_set, IfOk, OnOk, OnErr};
 ghost use Rattle.std.specs.Prelude.{option_map, IfSome};
 ghost use Rattle.std.specs.List.{insert, list_any, position, remove, slice_get};
 ghost use Rattle.std.specs.List.{slice_index_or};
@@ -10,27 +10,22 @@ ghost use Rattle.t1_parts.specs.Counts.{raised_item, subrs_needed, glyphs_needed
 ghost use Rattle.t1_parts.specs.EntryKeys.{is_entry_of, is_of_kind, is_section};
 ghost use Rattle.t1_parts.specs.EntryKeys.{IsEntryAt, IsThrough};
 ghost use Rattle.t1_parts.specs.Items.{items_in};
-ghost use Rattle.t1_parts.specs.Starts.{IsEntryOnIts};
-ghost use Rattle.t1_parts.specs.Stretches.{AreSingle, StandsAloneAt};
 ghost use Rattle.t1_parts.specs.ItemRefs.{item_of};
 ghost use Rattle.t1_parts.specs.LenIV.{lead_among, says_lead};
 
+use crate::blocks::Blocks;
 use crate::entry_key::{EntryKey, ItemKind};
 use crate::item::Item;
 use crate::item_ref::ItemRef;
-use crate::items_iter::{ItemsIter, item_before, items_among, items_between};
+use crate::items_iter::ItemsIter;
 use crate::section_ends::{end_inserted, end_pushed, end_put, end_removed};
 use crate::starts::{
-    EntryCounts, Needs, ask_the_same, lead_after, lead_in, needs_after, needs_among, needs_of,
-    needs_without, starts_of, together,
+    Needs, ask_the_same, lead_after, lead_of, needs_after, needs_among, needs_of, needs_without,
+    together,
 };
 use crate::stretch::Stretch;
-use crate::stretches::Stretches;
 use std::alloc::{AllocError, Global};
 use std::marker::Model;
-
-/// How many stretches before an end are looked at for an entry that should stand there.
-const FEW: usize = 32;
 
 /// The items of a private part. Plain lines that follow one another may stand together, as the
 /// bytes that were read. Their lenIV is kept, what they ask of the counts of their sections, and a
@@ -38,7 +33,7 @@ const FEW: usize = 32;
 /// each plain line.
 #[derive(Drop)]
 pub struct Items<'a> {
-    stretches: Stretches<'a>,
+    blocks: Blocks<'a>,
     len: usize,
     lead: u8,
     needs: Needs,
@@ -51,20 +46,19 @@ impl<'a> Model for Items<'a> {
     ghost use Rattle.t1_parts.specs.declared.item.Item.{Item};
     ghost use Rattle.t1_parts.specs.Counts.{subrs_needed, glyphs_needed};
     ghost use Rattle.t1_parts.specs.EntryKeys.{is_section};
-    ghost use Rattle.t1_parts.specs.Items.{items_in};
     ghost use Rattle.t1_parts.specs.LenIV.{lead_among};
 
     ghost Value = { List Item };
 
-    ghost view = { λ items. items_in items.stretches };
+    ghost view = { λ items. items.blocks };
 
     ghost invariant = { λ items.
-        (items.len ≡ length (items_in items.stretches))
-        × (items.lead ≡ lead_among (items_in items.stretches))
-        × (items.needs.subrs ≡ subrs_needed (items_in items.stretches))
-        × (items.needs.glyphs ≡ glyphs_needed (items_in items.stretches))
-        × (items.sections_end ≤ length (items_in items.stretches))
-        × (list_any is_section (drop items.sections_end (items_in items.stretches))
+        (items.len ≡ length items.blocks)
+        × (items.lead ≡ lead_among items.blocks)
+        × (items.needs.subrs ≡ subrs_needed items.blocks)
+        × (items.needs.glyphs ≡ glyphs_needed items.blocks)
+        × (items.sections_end ≤ length items.blocks)
+        × (list_any is_section (drop items.sections_end items.blocks)
         ≡ false) };
 }
 
@@ -75,65 +69,13 @@ fn says_either(old: &ItemRef, new: &Item) -> bool
     old.says_lead() || new.as_ref().says_lead()
 }
 
-/// Where the entry of a key stands.
-fn place_of_entry(stretches: &[Stretch], key: &EntryKey) -> Option<usize>
-    requires { length (items_in stretches.now) < 2 ^ 64 }
-    ensures value { result ≡ position (is_entry_of key.now) (items_in stretches.now) }
-    ensures within { IfSome result (λ at. at < length (items_in stretches.now)) }
-{
-    let mut passed: usize = 0;
-    for stretch in stretches {
-        if let Some(_entry) = stretch.entry_of(key) {
-            return Some(passed);
-        }
-        passed += stretch.len();
-    }
-    None
-}
-
-/// The index of the stretch that is the entry of a key, where it is one of the few before an end.
-fn entry_before(stretches: &[Stretch], end: usize, key: &EntryKey) -> Option<usize>
-    requires { end ≤ length stretches.now }
-    ensures { IfSome result (IsEntryOnIts key.now stretches.now) }
-{
-    for back in 0..FEW {
-        if end <= back {
-            return None;
-        }
-        let index = end - back - 1;
-        let stretch = &stretches[index];
-        if let Some(_entry) = stretch.entry_of(key) {
-            return Some(index);
-        }
-    }
-    None
-}
-
-/// How many items stand through the last one of a kind, in stretches of so many items.
-fn through_last(stretches: &[Stretch], len: usize, kind: ItemKind) -> usize
-    requires { len ≡ length (items_in stretches.now) }
-    ensures { IsThrough (is_of_kind kind) (items_in stretches.now) result }
-{
-    let mut through = len;
-    let mut index = stretches.len();
-    while 0 < index {
-        index -= 1;
-        let stretch = &stretches[index];
-        if let Some(_last) = stretch.of_kind(kind) {
-            return through;
-        }
-        through -= stretch.len();
-    }
-    0
-}
-
 impl<'a> Items<'a> {
     /// No items.
     pub fn new(alloc: Global) -> Self
         ensures { result ≡ [] }
     {
         Items {
-            stretches: Stretches::new(alloc),
+            blocks: Blocks::new(alloc),
             len: 0,
             lead: 4,
             needs: Needs {
@@ -144,23 +86,17 @@ impl<'a> Items<'a> {
         }
     }
 
-    /// The items of some stretches, of which each may be known to be one item. None of them is
-    /// copied.
-    pub(crate) fn of_stretches(
-        stretches: Vec<Stretch<'a>>,
-        are_single: bool,
-    ) -> Result<Items<'a>, AllocError>
-        requires { are_single ≡ true → AreSingle stretches.items }
+    /// The items of some stretches. None of them is copied.
+    pub(crate) fn of_stretches(stretches: Vec<Stretch<'a>>) -> Result<Items<'a>, AllocError>
         ensures { IfOk result (λ items. items ≡ items_in stretches.entry.items) }
     {
-        let alloc = *stretches.allocator();
-        let (starts, len) = starts_of(alloc, stretches.as_slice(), are_single)?;
-        let entries = EntryCounts::of(alloc, stretches.as_slice())?;
-        let lead = lead_in(stretches.as_slice(), len);
-        let needs = needs_among(stretches.as_slice(), len);
-        let sections_end = through_last(stretches.as_slice(), len, ItemKind::Sections);
+        let blocks = Blocks::of_stretches(stretches)?;
+        let len = blocks.len()?;
+        let lead = lead_of(blocks.iter(len));
+        let needs = needs_among(blocks.iter(len));
+        let sections_end = blocks.through_last(len, ItemKind::Sections);
         Ok(Items {
-            stretches: Stretches::started(stretches, starts, entries, are_single),
+            blocks,
             len,
             lead,
             needs,
@@ -207,7 +143,7 @@ impl<'a> Items<'a> {
         ensures items { result ≡ self.now }
         ensures within { length self.now < 2 ^ 64 }
     {
-        items_among(self.stretches.as_slice(), self.len)
+        self.blocks.iter(self.len)
     }
 
     /// The items before a place, and those from it on.
@@ -216,20 +152,7 @@ impl<'a> Items<'a> {
         ensures front { result.0 ≡ take at self.now }
         ensures back { result.1 ≡ drop at self.now }
     {
-        let (index, offset) = self.stretches.place_of(at);
-        let stretches = self.stretches.as_slice();
-        let (before, from) = stretches.split_at(index);
-        if index == stretches.len() {
-            return (items_among(before, at), items_among(from, self.len - at));
-        }
-        let Some((front, back)) = stretches[index].cut(offset) else {
-            return (items_among(before, at), items_among(from, self.len - at));
-        };
-        let after = stretches.split_at(index + 1).1;
-        (
-            items_between(b"", before, front.as_bytes(), at),
-            items_between(back.as_bytes(), after, b"", self.len - at),
-        )
+        self.blocks.split_at(at, self.len)
     }
 
     /// The first of the items, behind which no section line stands.
@@ -244,25 +167,25 @@ impl<'a> Items<'a> {
     pub fn none(&self) -> ItemsIter<'_, 'a>
         ensures { result ≡ [] }
     {
-        items_among(self.stretches.as_slice().split_at(0).0, 0)
+        self.blocks.none()
     }
 
     /// An item that stands elsewhere, alone.
     pub fn one<'i>(&'i self, item: &'i Item<'a>) -> ItemsIter<'i, 'a>
         ensures { result ≡ item.now ∷ [] }
     {
-        item_before(item, self.stretches.as_slice().split_at(0).0)
+        self.blocks.one(item)
     }
 
-    /// A copy. What the source's own bytes hold of the items takes no memory but for their places.
-    pub fn copied(&self, alloc: Global) -> Result<Items<'a>, AllocError>
+    /// A copy, which shares the items until they are changed.
+    pub fn copied(&self) -> Result<Items<'a>, AllocError>
         ensures { IfOk result (λ copy. copy ≡ self.now) }
     {
         let len = self.len;
         let lead = self.lead;
-        let stretches = self.stretches.copied(alloc)?;
+        let blocks = self.blocks.copied()?;
         Ok(Items {
-            stretches,
+            blocks,
             len,
             lead,
             needs: self.needs,
@@ -286,10 +209,7 @@ impl<'a> Items<'a> {
         requires { at < length self.now }
         ensures { (d : Item) → slice_index_or self.now at d ≡ item_of result }
     {
-        let (index, offset) = self.stretches.place_of(at);
-        let stretches = self.stretches.as_slice();
-        let stretch = &stretches[index];
-        stretch.item(offset)
+        self.blocks.item(at)
     }
 
     /// The item at a place, where there is one.
@@ -309,7 +229,7 @@ impl<'a> Items<'a> {
         ensures within { IfSome result (λ at. at < length self.now) }
     {
         let _len = self.len();
-        place_of_entry(self.stretches.as_slice(), key)
+        self.blocks.entry_place(key)
     }
 
     /// The place of the entry of a key, where it is one of the few items before an end that is told
@@ -318,18 +238,14 @@ impl<'a> Items<'a> {
         ensures { IfSome result (IsEntryAt key.now self.now) }
     {
         let behind = self.len.saturating_sub(end);
-        let end = self.stretches.with_entries_behind(behind);
-        let Some(index) = entry_before(self.stretches.as_slice(), end, key) else {
-            return None;
-        };
-        Some(self.stretches.start(index))
+        self.blocks.entry_before(behind, key)
     }
 
     /// How many items stand through the last one of a kind. They are gone over from the end.
     pub fn through_last(&self, kind: ItemKind) -> usize
         ensures { IsThrough (is_of_kind kind) self.now result }
     {
-        through_last(self.stretches.as_slice(), self.len, kind)
+        self.blocks.through_last(self.len, kind)
     }
 
     /// Adds an item at the end. Where memory runs out, nothing has changed.
@@ -344,11 +260,11 @@ impl<'a> Items<'a> {
         let is_said = item.as_ref().says_lead();
         let more = needs_of(&item.as_ref());
         let sections_end = end_pushed(self.sections_end, len, &item);
-        self.stretches.push(item, self.len)?;
+        self.blocks.push(item)?;
         self.len = len;
         self.needs = together(self.needs, more);
         self.sections_end = sections_end;
-        self.lead = lead_after(self.stretches.as_slice(), len, self.lead, is_said);
+        self.lead = lead_after(self.blocks.iter(len), self.lead, is_said);
         Ok(())
     }
 
@@ -365,83 +281,69 @@ impl<'a> Items<'a> {
         let is_said = item.as_ref().says_lead();
         let more = needs_of(&item.as_ref());
         let sections_end = end_inserted(self.sections_end, at, &item);
-        let index = match self.stretches.cut_before(at) {
-            Ok(index) => index,
-            Err(error) => {
-                drop(item);
-                return Err(error);
-            }
-        };
-        self.stretches.insert(index, at, item)?;
+        self.blocks.insert(at, self.len, item)?;
         self.len = len;
         self.needs = together(self.needs, more);
         self.sections_end = sections_end;
-        self.lead = lead_after(self.stretches.as_slice(), len, self.lead, is_said);
+        self.lead = lead_after(self.blocks.iter(len), self.lead, is_said);
         Ok(())
     }
 
-    /// Takes the item at a place out. Only a plain line that says nothing of lenIV may take memory;
-    /// where it runs out, nothing has changed.
+    /// Takes the item at a place out. Where memory runs out, nothing has changed.
     pub fn take_out(&mut self, at: usize) -> Result<(), AllocError>
         requires { at < length self.old }
         ensures ok { OnOk result (self.new ≡ remove self.old at) }
         ensures err { OnErr result (self.new ≡ self.old) }
-        ensures still { StandsAloneAt self.old at → IsOk result }
     {
         let item = self.item(at);
         let is_said = item.says_lead();
         let gone = needs_of(&item);
-        let index = self.stretches.cut_before(at)?;
-        self.stretches.drop_first(index);
+        self.blocks.take_out(at)?;
         let len = self.len - 1;
         self.len = len;
-        self.needs = needs_without(self.stretches.as_slice(), len, self.needs, gone);
+        self.needs = needs_without(self.blocks.iter(len), self.needs, gone);
         self.sections_end = end_removed(self.sections_end, at);
-        self.lead = lead_after(self.stretches.as_slice(), len, self.lead, is_said);
+        self.lead = lead_after(self.blocks.iter(len), self.lead, is_said);
         Ok(())
     }
 
-    /// Puts an item in the place of another. Only in the place of a plain line that says nothing of
-    /// lenIV it may take memory; where it runs out, nothing has changed.
+    /// Puts an item in the place of another. Where memory runs out, nothing has changed.
     pub fn put(&mut self, at: usize, item: Item<'a>) -> Result<(), AllocError>
         requires { at < length self.old }
         ensures ok { OnOk result (self.new ≡ slice_set self.old at item.entry) }
         ensures err { OnErr result (self.new ≡ self.old) }
-        ensures still { StandsAloneAt self.old at → IsOk result }
     {
         let _len = self.len();
         let old = self.item(at);
         let is_said = says_either(&old, &item);
         let is_same = ask_the_same(&old, &item);
         let sections_end = end_put(self.sections_end, at, &item);
-        let index = match self.stretches.cut_before(at) {
-            Ok(index) => index,
-            Err(error) => {
-                drop(item);
-                return Err(error);
-            }
-        };
-        self.stretches.put_first(index, at, item)?;
-        self.needs = needs_after(self.stretches.as_slice(), self.len, self.needs, is_same);
+        self.blocks.put(at, item)?;
+        self.needs = needs_after(self.blocks.iter(self.len), self.needs, is_same);
         self.sections_end = sections_end;
-        self.lead = lead_after(self.stretches.as_slice(), self.len, self.lead, is_said);
+        self.lead = lead_after(self.blocks.iter(self.len), self.lead, is_said);
         Ok(())
     }
 
-    /// Raises the counts of the section lines to what is needed, in their places.
-    pub(crate) fn raise_counts(&mut self, subrs: u64, glyphs: u64)
-        ensures { self.new ≡ map (raised_item subrs glyphs) self.old }
+    /// Raises the counts of the section lines to what is needed, in their places. Where memory runs
+    /// out, nothing has changed.
+    pub(crate) fn raise_counts(&mut self, subrs: u64, glyphs: u64) -> Result<(), AllocError>
+        ensures ok { OnOk result (self.new ≡ map (raised_item subrs glyphs) self.old) }
+        ensures err { OnErr result (self.new ≡ self.old) }
     {
-        let end = self.stretches.through(self.sections_end);
-        self.stretches.raise_counts(end, subrs, glyphs);
+        self.blocks
+            .raise_counts(self.sections_end, self.len, subrs, glyphs)?;
+        Ok(())
     }
 }
 
-/// Raises the counts of the section lines to what is needed, in their places.
-pub fn raise(items: &mut Items)
-    ensures { items.new ≡ raised items.old }
+/// Raises the counts of the section lines to what is needed, in their places. Where memory runs
+/// out, nothing has changed.
+pub fn raise(items: &mut Items) -> Result<(), AllocError>
+    ensures ok { OnOk result (items.new ≡ raised items.old) }
+    ensures err { OnErr result (items.new ≡ items.old) }
 {
     let subrs = items.subrs_needed();
     let glyphs = items.glyphs_needed();
-    items.raise_counts(subrs, glyphs);
+    items.raise_counts(subrs, glyphs)
 }

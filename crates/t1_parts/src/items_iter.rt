@@ -2,24 +2,27 @@
 
 ghost use Rattle.std.specs.Prelude.{◌≡◌, ◌++◌, ◌∷◌, [], false, filter, length};
 ghost use Rattle.t1_text.specs.Lines.{lines};
+ghost use Rattle.t1_buckets.specs.Buckets.{shared_joined};
 ghost use Rattle.t1_parts.specs.Items.{items_in, line_items};
 ghost use Rattle.t1_parts.specs.Stretches.{lines_say, stands_alone};
 
 use crate::alone_items::AloneItems;
+use crate::block::Block;
 use crate::item::Item;
 use crate::item_ref::ItemRef;
 use crate::plain_lines::next_line;
 use crate::stretch::Stretch;
+use crate::stretches_left::{StretchesLeft, no_stretches};
 use std::marker::Model;
-use std::slice;
+use std::rc::Rc;
 
-/// The items that are left, one after another: an item, and those of some lines, of some stretches
-/// and of further lines. Contracts see their list.
+/// The items that are left, one after another: an item, those of some lines and of some stretches,
+/// of some blocks, and of further stretches and lines. Contracts see their list.
 #[derive(Drop)]
 pub struct ItemsIter<'i, 'a> {
     first: Option<&'i Item<'a>>,
     front: &'i [u8],
-    stretches: slice::Iter<'i, Stretch<'a>>,
+    stretches: StretchesLeft<'i, 'a>,
     back: &'i [u8],
     len: usize,
 }
@@ -28,7 +31,7 @@ impl<'i, 'a> Model for ItemsIter<'i, 'a> {
     ghost use Rattle.std.specs.Prelude.{◌≡◌, List, ◌++◌, false, length};
     ghost use Rattle.t1_text.specs.Lines.{lines};
     ghost use Rattle.t1_parts.specs.declared.item.Item.{Item};
-    ghost use Rattle.t1_parts.specs.Items.{items_in, line_items};
+    ghost use Rattle.t1_parts.specs.Items.{line_items};
     ghost use Rattle.t1_parts.specs.Stretches.{lines_say, one_item};
 
     ghost Value = { List Item };
@@ -36,14 +39,14 @@ impl<'i, 'a> Model for ItemsIter<'i, 'a> {
     ghost view = { λ left.
         one_item left.first
         ++ (line_items (lines left.front.now)
-        ++ (items_in left.stretches.rest.now ++ line_items (lines left.back.now))) };
+        ++ (left.stretches ++ line_items (lines left.back.now))) };
 
     ghost invariant = { λ left.
         (left.len
         ≡ length
         (one_item left.first
         ++ (line_items (lines left.front.now)
-        ++ (items_in left.stretches.rest.now ++ line_items (lines left.back.now)))))
+        ++ (left.stretches ++ line_items (lines left.back.now)))))
         × (lines_say (lines left.front.now) ≡ false)
         × (lines_say (lines left.back.now) ≡ false) };
 }
@@ -72,7 +75,7 @@ impl<'i, 'a> Iterator for ItemsIter<'i, 'a> {
             self.len -= 1;
             return Some(ItemRef::Plain(line));
         }
-        let Some(stretch) = self.stretches.next() else {
+        let Some(stretch) = self.stretches.next_stretch() else {
             let back = self.back;
             if back.is_empty() {
                 return None;
@@ -121,55 +124,85 @@ impl<'i, 'a> ItemsIter<'i, 'a> {
         ItemsIter {
             first: self.first,
             front: self.front,
-            stretches: self.stretches.as_slice().iter(),
+            stretches: self.stretches.again(),
             back: self.back,
             len: self.len,
         }
     }
 }
 
-/// The items of some lines, some stretches, and further lines, which are so many.
-pub(crate) fn items_between<'i, 'a>(
-    front: &'i [u8],
-    stretches: &'i [Stretch<'a>],
-    back: &'i [u8],
-    len: usize,
-) -> ItemsIter<'i, 'a>
-    requires front { lines_say (lines front.now) ≡ false }
-    requires back { lines_say (lines back.now) ≡ false }
-    requires len { len
-        ≡ length
-        (line_items (lines front.now)
-        ++ (items_in stretches.now ++ line_items (lines back.now))) }
-    ensures { result
-        ≡ line_items (lines front.now) ++ (items_in stretches.now ++ line_items (lines back.now)) }
+/// The items of some blocks, which are so many.
+pub(crate) fn items_among<'i, 'a>(blocks: &'i [Rc<Block<'a>>], len: usize) -> ItemsIter<'i, 'a>
+    requires { len ≡ length (shared_joined blocks.now) }
+    ensures { result ≡ shared_joined blocks.now }
 {
     ItemsIter {
         first: None,
-        front,
-        stretches: stretches.iter(),
+        front: b"",
+        stretches: StretchesLeft::of_blocks(blocks),
+        back: b"",
+        len,
+    }
+}
+
+/// The items of some blocks, some stretches after them, and some lines, which are so many.
+pub(crate) fn items_through<'i, 'a>(
+    blocks: &'i [Rc<Block<'a>>],
+    last: &'i [Stretch<'a>],
+    back: &'i [u8],
+    len: usize,
+) -> ItemsIter<'i, 'a>
+    requires silent { lines_say (lines back.now) ≡ false }
+    requires len { len
+        ≡ length
+        (shared_joined blocks.now ++ (items_in last.now ++ line_items (lines back.now))) }
+    ensures { result
+        ≡ shared_joined blocks.now ++ (items_in last.now ++ line_items (lines back.now)) }
+{
+    ItemsIter {
+        first: None,
+        front: b"",
+        stretches: StretchesLeft::of(no_stretches(), blocks, Some(last)),
         back,
         len,
     }
 }
 
-/// The items of some stretches, which are so many.
-pub(crate) fn items_among<'i, 'a>(stretches: &'i [Stretch<'a>], len: usize) -> ItemsIter<'i, 'a>
-    requires { len ≡ length (items_in stretches.now) }
-    ensures { result ≡ items_in stretches.now }
+/// The items of some lines, some stretches, and some blocks after them, which are so many.
+pub(crate) fn items_from<'i, 'a>(
+    front: &'i [u8],
+    first: &'i [Stretch<'a>],
+    blocks: &'i [Rc<Block<'a>>],
+    len: usize,
+) -> ItemsIter<'i, 'a>
+    requires silent { lines_say (lines front.now) ≡ false }
+    requires len { len
+        ≡ length
+        (line_items (lines front.now) ++ (items_in first.now ++ shared_joined blocks.now)) }
+    ensures { result
+        ≡ line_items (lines front.now) ++ (items_in first.now ++ shared_joined blocks.now) }
 {
-    items_between(b"", stretches, b"", len)
+    ItemsIter {
+        first: None,
+        front,
+        stretches: StretchesLeft::of(first, blocks, None),
+        back: b"",
+        len,
+    }
 }
 
-/// An item that stands elsewhere, alone, before none of some stretches.
-pub(crate) fn item_before<'i, 'a>(item: &'i Item<'a>, none: &'i [Stretch<'a>]) -> ItemsIter<'i, 'a>
+/// An item that stands elsewhere, alone, before none of some blocks.
+pub(crate) fn item_before<'i, 'a>(
+    item: &'i Item<'a>,
+    none: &'i [Rc<Block<'a>>],
+) -> ItemsIter<'i, 'a>
     requires { length none.now ≡ 0 }
     ensures { result ≡ item.now ∷ [] }
 {
     ItemsIter {
         first: Some(item),
         front: b"",
-        stretches: none.iter(),
+        stretches: StretchesLeft::of_blocks(none),
         back: b"",
         len: 1,
     }

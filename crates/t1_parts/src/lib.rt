@@ -10,6 +10,8 @@
 #![tactic(auto)]
 
 mod alone_items;
+mod block;
+mod blocks;
 mod body;
 mod encoding;
 mod entry_key;
@@ -30,6 +32,7 @@ mod sections;
 mod starts;
 mod stretch;
 mod stretches;
+mod stretches_left;
 
 pub use alone_items::AloneItems;
 pub use body::{

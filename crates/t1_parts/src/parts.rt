@@ -215,7 +215,7 @@ pub fn read_parts(alloc: Global, bytes: &[u8]) -> Result<ReadParts<'_>, Refusal>
     let items = private_items(alloc, number, parts.private, parts.closefile)?;
     check_whole(&items)?;
     let mut items = items.into_items()?;
-    raise(&mut items);
+    raise(&mut items)?;
     let tail = tail_of(alloc, parts.tail)?;
     Ok(ReadParts { clear, items, tail })
 }

@@ -15,7 +15,7 @@ ghost use Rattle.t1_parts.specs.Stretches.{AreSingle};
 
 use crate::item::Item;
 use crate::item_ref::ItemRef;
-use crate::items_iter::{ItemsIter, items_among};
+use crate::items_iter::ItemsIter;
 use crate::len_iv::lead_on;
 use crate::stretch::Stretch;
 use std::alloc::{AllocError, Global};
@@ -167,6 +167,11 @@ impl EntryCounts {
         })
     }
 
+    /// How many entries there are in all.
+    pub(crate) fn len(&self) -> usize {
+        self.count
+    }
+
     /// The index of a stretch from which on so many entries stand, which is at most an end.
     pub(crate) fn with_behind(&self, behind: usize, end: usize) -> usize
         ensures { result ≤ end }
@@ -240,23 +245,14 @@ pub fn lead_of(items: ItemsIter) -> u8
     }
 }
 
-/// The lenIV of some stretches, which have so many items.
-pub(crate) fn lead_in(stretches: &[Stretch], len: usize) -> u8
-    requires { len ≡ length (items_in stretches.now) }
-    ensures { result ≡ lead_among (items_in stretches.now) }
-{
-    lead_of(items_among(stretches, len))
-}
-
-/// The lenIV of some stretches after an edit: the one before it, where nothing that was put in or
-/// taken out says lenIV.
-pub(crate) fn lead_after(stretches: &[Stretch], len: usize, lead: u8, is_said: bool) -> u8
-    requires len { len ≡ length (items_in stretches.now) }
-    requires same { is_said ≡ false → lead ≡ lead_among (items_in stretches.now) }
-    ensures { result ≡ lead_among (items_in stretches.now) }
+/// The lenIV of some items after an edit: the one before it, where nothing that was put in or taken
+/// out says lenIV.
+pub(crate) fn lead_after(items: ItemsIter, lead: u8, is_said: bool) -> u8
+    requires { is_said ≡ false → lead ≡ lead_among items }
+    ensures { result ≡ lead_among items.entry }
 {
     if is_said {
-        return lead_in(stretches, len);
+        return lead_of(items);
     }
     lead
 }
@@ -321,14 +317,13 @@ pub(crate) fn needs_of(item: &ItemRef) -> Needs
     }
 }
 
-/// What the items of some stretches ask, which have so many items.
-pub(crate) fn needs_among(stretches: &[Stretch], len: usize) -> Needs
-    requires { len ≡ length (items_in stretches.now) }
-    ensures { AreNeeded result (items_in stretches.now) }
+/// What some items ask.
+pub(crate) fn needs_among(items: ItemsIter) -> Needs
+    ensures { AreNeeded result items.entry }
 {
     Needs {
-        subrs: subrs_needed(items_among(stretches, len)),
-        glyphs: glyphs_needed(items_among(stretches, len)),
+        subrs: subrs_needed(items.again()),
+        glyphs: glyphs_needed(items),
     }
 }
 
@@ -344,13 +339,12 @@ pub(crate) fn together(some: Needs, others: Needs) -> Needs
     }
 }
 
-/// What the items of some stretches ask after one was taken out. They are gone over only where that
-/// was the Subr of the highest number.
-pub(crate) fn needs_without(stretches: &[Stretch], len: usize, needs: Needs, gone: Needs) -> Needs
-    requires len { len ≡ length (items_in stretches.now) }
-    requires subrs { needs.subrs ≡ max gone.subrs (subrs_needed (items_in stretches.now)) }
-    requires glyphs { needs.glyphs ≡ gone.glyphs + glyphs_needed (items_in stretches.now) }
-    ensures { AreNeeded result (items_in stretches.now) }
+/// What some items ask after one was taken out. They are gone over only where that was the Subr of
+/// the highest number.
+pub(crate) fn needs_without(items: ItemsIter, needs: Needs, gone: Needs) -> Needs
+    requires subrs { needs.subrs ≡ max gone.subrs (subrs_needed items) }
+    requires glyphs { needs.glyphs ≡ gone.glyphs + glyphs_needed items }
+    ensures { AreNeeded result items.entry }
 {
     let glyphs = needs.glyphs - gone.glyphs;
     if gone.subrs == 0 || gone.subrs < needs.subrs {
@@ -360,22 +354,21 @@ pub(crate) fn needs_without(stretches: &[Stretch], len: usize, needs: Needs, gon
         };
     }
     Needs {
-        subrs: subrs_needed(items_among(stretches, len)),
+        subrs: subrs_needed(items),
         glyphs,
     }
 }
 
-/// What the items of some stretches ask after an item came in the place of another: what they asked
-/// before, where both ask the same.
-pub(crate) fn needs_after(stretches: &[Stretch], len: usize, needs: Needs, is_same: bool) -> Needs
-    requires len { len ≡ length (items_in stretches.now) }
-    requires same { is_same ≡ true → AreNeeded needs (items_in stretches.now) }
-    ensures { AreNeeded result (items_in stretches.now) }
+/// What some items ask after one came in the place of another: what they asked before, where both
+/// ask the same.
+pub(crate) fn needs_after(items: ItemsIter, needs: Needs, is_same: bool) -> Needs
+    requires { is_same ≡ true → AreNeeded needs items }
+    ensures { AreNeeded result items.entry }
 {
     if is_same {
         return needs;
     }
-    needs_among(stretches, len)
+    needs_among(items)
 }
 
 /// Whether an item asks what another asks, in whose place it comes.

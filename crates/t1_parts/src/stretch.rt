@@ -1,7 +1,8 @@
 //! A stretch of items: one of any kind, or plain lines.
 
 ghost use Rattle.std.specs.Prelude.{◌≡◌, ◌<◌, ◌∷◌, [], ℕ, filter, IfOk, MatchOption, None, true};
-ghost use Rattle.std.specs.Prelude.{length, take, drop, false};
+ghost use Rattle.std.specs.Prelude.{length, take, drop, false, map};
+ghost use Rattle.t1_parts.specs.Counts.{raised_item};
 ghost use Rattle.std.specs.List.{find, list_any, slice_index_or};
 ghost use Rattle.t1_parts.specs.declared.stretch.Stretch.TheVariants as stretches;
 ghost use Rattle.t1_parts.specs.EntryKeys.{is_entry_of, is_of_kind};
@@ -51,6 +52,26 @@ impl<'a> Stretch<'a> {
             Stretch::One(item) => Stretch::One(item.copied(alloc)?),
             Stretch::Lines(plain) => Stretch::Lines(plain.copied()),
         })
+    }
+
+    /// Whether it isn't a section line with a lower count than what is needed.
+    pub(crate) fn is_raised(&self, subrs: u64, glyphs: u64) -> bool
+        ensures { result ≡ true
+            → map (raised_item subrs glyphs) (stretch_items self.now) ≡ stretch_items self.now }
+    {
+        let item = match self {
+            Stretch::One(item) => item,
+            Stretch::Lines(_plain) => return true,
+        };
+        let needed = if item.as_ref().is_glyphs_line() {
+            glyphs
+        } else {
+            subrs
+        };
+        match item {
+            Item::Section(_, count, _) => needed <= *count,
+            _ => true,
+        }
     }
 
     /// The item, where it is one that says lenIV.

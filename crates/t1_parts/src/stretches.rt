@@ -175,9 +175,10 @@ impl<'a> Stretches<'a> {
     }
 
     /// A copy. Only texts that are owned, the starts and the counts take memory.
-    pub(crate) fn copied(&self, alloc: Global) -> Result<Stretches<'a>, AllocError>
+    pub(crate) fn copied(&self) -> Result<Stretches<'a>, AllocError>
         ensures { IfOk result (λ copy. copy ≡ self.now) }
     {
+        let alloc = *self.stretches.allocator();
         let are_single = self.are_single;
         let starts = copied_starts(alloc, self.starts.as_slice())?;
         let entries = self.entries.copied(alloc)?;
@@ -218,6 +219,11 @@ impl<'a> Stretches<'a> {
             return index;
         }
         self.starts[index]
+    }
+
+    /// How many entries there are. Time alone hangs on it.
+    pub(crate) fn entry_count(&self) -> usize {
+        self.entries.len()
     }
 
     /// The index of a stretch from which on so many entries stand. Time alone hangs on it.

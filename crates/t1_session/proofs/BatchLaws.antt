@@ -1,5 +1,5 @@
 -- The batch that a session has open, and what its commands make of it.
-use Rattle.std.proofs.Common.{◌≡◌, true, false, List, [], ◌++◌, Option, None, Some, Result, Ok, Err, refl, sym, ap, ◌∙◌, subst, inl, inr}
+use Rattle.std.proofs.Common.{◌≡◌, ℕ, true, false, List, [], ◌++◌, Option, None, Some, Result, Ok, Err, refl, sym, ap, ◌∙◌, subst, inl, inr}
 use Rattle.std.specs.Prelude.{is_some, option_map}
 use Rattle.std.specs.Result.{result_ok}
 use Rattle.t1_frac.specs.declared.fault.Fault.{Fault}
@@ -42,16 +42,16 @@ some-of None e = absurd (cc)
 some-of (Some x) e = (x, refl)
 
 -- a batch of one edit by what the edit makes
-pub single_draft : (s : SourceParts) (k : List Pair) (edit : Edit) (made : SourceParts × List Pair) → edited s k edit ≡ Ok made
-    → open_draft s k (batches.Single edit) ≡ Some (draft_of_edit edit made)
-single_draft s k edit made e = ap (λ (r : Result (SourceParts × List Pair) Rule). option_map (draft_of_edit edit) (result_ok r)) e
+pub single_draft : (s : SourceParts) (k : List Pair) (edit : Edit) (near : ℕ) (made : SourceParts × List Pair) → edited s k edit ≡ Ok made
+    → open_draft s k (batches.Single edit near) ≡ Some (draft_of_edit edit made)
+single_draft s k edit near made e = ap (λ (r : Result (SourceParts × List Pair) Rule). option_map (draft_of_edit edit) (result_ok r)) e
 
 -- where no batch is open the session has none
 pub closed_is : (s : SourceParts) (k : List Pair) (b : OpenBatch) → IsOpenOn s k b → open_draft s k b ≡ None → b ≡ batches.Closed
 closed_is s k batches.Closed h e = refl
 closed_is s k batches.Unedited h e = absurd (cc)
-closed_is s k (batches.Single edit) h e =
-    let none : ◌≡◌ {A = Option Draft} (Some (draft_of_edit edit h.0)) None = sym (single_draft s k edit h.0 h.1) ∙ e in absurd (cc)
+closed_is s k (batches.Single edit near) h e =
+    let none : ◌≡◌ {A = Option Draft} (Some (draft_of_edit edit h.0)) None = sym (single_draft s k edit near h.0 h.1) ∙ e in absurd (cc)
 closed_is s k (batches.Drafted batch) h e = absurd (cc)
 
 -- the copies of a batch of one edit
@@ -70,11 +70,11 @@ made_of s k edit first now is done more made e =
 pub single_drafts : (s : SourceParts) (k : List Pair) (old new : OpenBatch) (edit : Edit) → is_unedited old ≡ true → OpensWith edit s k (Ok new)
     → DraftsOn {T = Unit {0}} s k old edit (Ok tt) new
 single_drafts s k batches.Closed new edit un opens = absurd (cc)
-single_drafts s k (batches.Single first) new edit un opens = absurd (cc)
+single_drafts s k (batches.Single first near) new edit un opens = absurd (cc)
 single_drafts s k (batches.Drafted batch) new edit un opens = absurd (cc)
 single_drafts s k batches.Unedited new edit un opens = record {
-  is_open = subst (IsOpenOn s k) (sym opens.2) (opens.0, opens.1);
-  drafts = λ was e. (draft_of_edit edit opens.0, ap (open_draft s k) opens.2 ∙ single_draft s k edit opens.0 opens.1, made was e);
+  is_open = subst (IsOpenOn s k) (sym opens.2.1) (opens.0, opens.1);
+  drafts = λ was e. (draft_of_edit edit opens.0, ap (open_draft s k) opens.2.1 ∙ single_draft s k edit opens.2.0 opens.0 opens.1, made was e);
 } where
   made : (was : Draft) → open_draft s k batches.Unedited ≡ Some was → Drafts {T = Unit {0}} was edit (Ok tt) (draft_of_edit edit opens.0)
   made was e =

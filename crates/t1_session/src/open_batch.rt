@@ -13,16 +13,17 @@ use t1_pairs::Pairs;
 use t1_source::laws::source_is_well_formed;
 use t1_source::{Cause, Edit, Hint, Source};
 
-/// The batch that a session has open, or none. The source and the pairs are copied for the second
-/// edit of a batch, and not before.
+/// The batch that a session has open, or none. From the second edit of a batch on its edits are
+/// made on copies of the source and the pairs, which share what no edit of it changes.
 #[derive(Drop)]
 pub enum OpenBatch<'a> {
     /// No batch is open.
     Closed,
     /// One without edits: its source and its pairs are those of the session.
     Unedited,
-    /// One of a single edit, which keeps the edit rules and isn't made yet.
-    Single(Edit),
+    /// One of a single edit, which keeps the edit rules and isn't made yet, and the place where its
+    /// entry is looked for.
+    Single(Edit, usize),
     /// One of several edits, which are made on copies.
     Drafted(Batch<'a>),
 }
@@ -40,21 +41,23 @@ fn single<'a>(
     ensures { OpensWith edit.now source.now pairs.now result }
 {
     drop(source.prepared_near(pairs, edit, hint)?);
-    Ok(OpenBatch::Single(edit.copied(alloc)?))
+    Ok(OpenBatch::Single(edit.copied(alloc)?, hint.near()))
 }
 
-/// A batch of an edit that keeps the edit rules, made on copies of a source and its pairs.
+/// A batch of an edit that keeps the edit rules, made on copies of a source and its pairs. An entry
+/// is looked for first before a place.
 fn drafted<'a>(
     alloc: Global,
     source: &Source<'a>,
     pairs: &Pairs,
     edit: &Edit,
+    near: usize,
 ) -> Result<Batch<'a>, AllocError>
     ensures { IfOk result (IsMadeOf edit.now source.now pairs.now) }
 {
     source_is_well_formed(source);
     let mut batch = Batch::of(alloc, source, pairs)?;
-    match batch.edit(alloc, edit, 0) {
+    match batch.edit(alloc, edit, near) {
         Ok(()) => Ok(batch),
         // It breaks no rule.
         Err(_) => Err(AllocError),
@@ -89,10 +92,10 @@ impl<'a> OpenBatch<'a> {
             → is_unedited self.old ≡ false
             → is_drafted self.new ≡ true) }
     {
-        let OpenBatch::Single(edit) = self else {
+        let OpenBatch::Single(edit, near) = self else {
             return Ok(());
         };
-        let batch = drafted(alloc, source, pairs, edit)?;
+        let batch = drafted(alloc, source, pairs, edit, *near)?;
         drop(mem::replace(self, OpenBatch::Drafted(batch)));
         Ok(())
     }

@@ -49,13 +49,13 @@ fn rule_line(alloc: Global, rule: Rule) -> Result<Vec<u8>, AllocError>
 
 /// Why the source that a prepared edit makes is refused, where it is: the glyphs that the edit
 /// makes stale are run for it, and not counted. What is held stays.
-fn judged_edit(
+fn judged_edit<'e, 'a>(
     alloc: Global,
-    source: &Source,
+    source: &'e Source<'a>,
     pairs: &Pairs,
     held: &mut Held,
     edit: &Edit,
-    change: &Change,
+    change: &'e Change<'a>,
 ) -> Option<Refusal>
     requires { IsPreparedEdit source.now pairs.now edit.now change.now held.old }
     ensures checked { MatchOption result
@@ -83,13 +83,13 @@ fn told_fault(refusal: Refusal) -> Result<Option<Fault>, AllocError>
 }
 
 /// The first fault of the source that a prepared edit makes. What is held stays.
-fn prepared_fault(
+fn prepared_fault<'e, 'a>(
     alloc: Global,
-    source: &Source,
+    source: &'e Source<'a>,
     pairs: &Pairs,
     held: &mut Held,
     edit: &Edit,
-    change: &Change,
+    change: &'e Change<'a>,
 ) -> Result<Option<Fault>, AllocError>
     requires { IsPreparedEdit source.now pairs.now edit.now change.now held.old }
     ensures fault { IfOk result (λ fault.

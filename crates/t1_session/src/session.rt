@@ -76,7 +76,8 @@ ghost use Rattle.t1_font.specs.Glyphs.{glyph_names};
 ghost use Rattle.t1_font.specs.RunCounts.{counted};
 ghost use Rattle.t1_font.specs.SourceChecks.{source_check};
 ghost use Rattle.t1_cache.specs.EditKeys.{named};
-ghost use Rattle.t1_held.specs.Batch.{entry_edit, keys};
+ghost use Rattle.t1_charstrings.specs.Beside.{IsKeptBeside};
+ghost use Rattle.t1_held.specs.Batch.{count_begin, entry_edit, keys};
 ghost use Rattle.t1_held.specs.Drafting.{IsDraftOf, IsEditedBy};
 ghost use Rattle.t1_parts.specs.SourceParts.{SourceParts};
 ghost use Rattle.t1_pairs.specs.declared.pairs.Pair.{Pair};
@@ -104,7 +105,7 @@ use std::mem;
 use t1_code::{Counted, OutError};
 use t1_commands::{Answer, SessionCommand, answer_of, put_answer};
 use t1_frac::Refusal;
-use t1_held::{EditedEntry, held_of, hint_of, prepare_batch, prepare_edit, settle};
+use t1_held::{BatchEdits, held_of, hint_of, prepare_batch, prepare_edit, settle};
 use t1_pairs::laws::text_of_pairs_read;
 use t1_source::laws::{source_is_well_formed, text_of_source_read};
 use t1_source::{Cause, Change, Edit, Rule};
@@ -231,7 +232,8 @@ impl<'a> Session<'a> {
         }
     }
 
-    /// Opens a batch; E11 where one is open. Its second edit copies the source and the pairs.
+    /// Opens a batch; E11 where one is open. Its second edit makes copies of the source and the
+    /// pairs, which share what no edit of the batch changes.
     pub fn begin(&mut self) -> Result<(), Cause>
         ensures takes { Takes self.old.state commands.Begin result self.new.state }
         ensures kept { AreKept self.old self.new }
@@ -316,7 +318,7 @@ impl<'a> Session<'a> {
         match mem::replace(&mut self.batch, OpenBatch::Closed) {
             OpenBatch::Closed => (Err(Cause::Rule(Rule::E12)), None),
             OpenBatch::Unedited => self.commit_nothing(),
-            OpenBatch::Single(edit) => self.commit_single(&edit),
+            OpenBatch::Single(edit, _near) => self.commit_single(&edit),
             OpenBatch::Drafted(batch) => self.commit_drafted(batch),
         }
     }
@@ -325,10 +327,10 @@ impl<'a> Session<'a> {
     fn commit_drafted(&mut self, batch: Batch<'a>) -> (Result<(), Cause>, Option<Refused<'a>>)
         requires none { self.old.state.batch ≡ None }
         requires draft { IsDraftOf self.old.state.source batch }
-        ensures { Commits batch.entry self.old result.0 result.1 self.new }
+        ensures { Commits batch.entry.draft self.old result.0 result.1 self.new }
     {
-        let (source, pairs, entries) = batch.into_parts();
-        self.accept(source, pairs, entries)
+        let (source, pairs, edits) = batch.into_parts();
+        self.accept(source, pairs, edits)
     }
 
     /// Commits a batch without edits.
@@ -425,16 +427,21 @@ impl<'a> Session<'a> {
         &mut self,
         source: Source<'a>,
         pairs: Pairs,
-        entries: Vec<EditedEntry>,
+        edits: BatchEdits,
     ) -> (Result<(), Cause>, Option<Refused<'a>>)
         requires none { self.old.state.batch ≡ None }
-        requires edited { IsEditedBy (map entry_edit entries.items) self.old.state.source source }
+        requires edited { IsEditedBy (map entry_edit edits.entries.items) self.old.state.source
+            source }
+        requires beside { IsKeptBeside self.old.state.source count_begin source edits.beside }
         ensures took { Took self.old.state
             (judged self.old.state (source.entry, pairs) (source_check source.entry)) true
             self.old.state result.0 self.new.state }
         ensures faulty { OnFault result.0 (result.1 ≡ Some (Refused.Batch source.entry)) }
         ensures runs { RerunsByTest (Some
-            (record { keys = keys (map entry_edit entries.items); source = source.entry })) self.old
+            (record {
+              keys = keys (map entry_edit edits.entries.items);
+              source = source.entry;
+            })) self.old
             result.0 self.new }
     {
         let prepared = prepare_batch(
@@ -442,7 +449,7 @@ impl<'a> Session<'a> {
             &mut self.held,
             &self.source,
             &source,
-            entries,
+            edits,
             &mut self.meter,
         );
         let ready = match prepared {

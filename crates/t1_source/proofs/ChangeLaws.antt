@@ -258,8 +258,3 @@ found_subr_alone items n at e = found_alone (is_subr n) (subr-alone n) items at 
 
 pub found_lead_alone : (items : List Item) (at : ℕ) → position says_lead items ≡ Some at → StandsAloneAt items at
 found_lead_alone items at e = found_alone says_lead alone_saying items at e
-
--- what is said of a result that is there
-pub ok_holds : {A E : Type 0} (r : Result A E) (P : Type 0) → IsOk r → OnOk r P → P
-ok_holds (Ok x) P h p = p
-ok_holds (Err e) P h p = cc

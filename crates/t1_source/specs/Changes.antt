@@ -97,13 +97,3 @@ pub record IsFor (change : Change) (s : SourceParts) : Type 0 where
   pub pairs : List Pair
   pub serves : Suits change s pairs
   pub well : IsWellFormed s
-
--- word, edits: whether the change takes room: where an item or a pair is put in
-abbrev pub takes_room : Change → Bool
-takes_room (InsertItem at item) = true
-takes_room (InsertPair at pair) = true
-takes_room (PutItem at item) = false
-takes_room (RemoveItem at) = false
-takes_room (PutClear lines) = false
-takes_room (PutPair at pair) = false
-takes_room (RemovePair at) = false

@@ -4,6 +4,8 @@ use crate::codes::{array_code, array_names, standard_code, standard_names};
 use crate::editing::Change;
 use std::alloc::{AllocError, Global};
 use std::marker::Model;
+use std::mem;
+use std::rc::Rc;
 use t1_frac::{Bytes, Refusal};
 use t1_pairs::Pairs;
 use t1_parts::{
@@ -16,9 +18,9 @@ use t1_text::{copied_bytes, same};
 #[derive(Drop)]
 pub struct Source<'a> {
     alloc: Global,
-    clear: Vec<Bytes>,
+    clear: Rc<Vec<Bytes>>,
     items: Items<'a>,
-    tail: Vec<Bytes>,
+    tail: Rc<Vec<Bytes>>,
 }
 
 impl<'a> Model for Source<'a> {
@@ -27,18 +29,25 @@ impl<'a> Model for Source<'a> {
     ghost Value = { SourceParts };
 
     ghost view = { λ source.
-        record { clear = source.clear.items; items = source.items; tail = source.tail.items } };
+        record {
+          clear = source.clear.value.items;
+          items = source.items;
+          tail = source.tail.value.items;
+        } };
 
     ghost use Rattle.t1_source.specs.WellFormed.{IsWellFormed};
 
     ghost invariant = { λ source.
         IsWellFormed
-        (record
-        { clear = source.clear.items; items = source.items; tail = source.tail.items }) };
+        (record {
+          clear = source.clear.value.items;
+          items = source.items;
+          tail = source.tail.value.items;
+        }) };
 }
 
 ghost use Rattle.std.specs.Prelude.{◌≡◌, ◌<◌, ◌≤◌, ◌++◌, ◌∷◌, ℕ, [], length, slice_set};
-ghost use Rattle.std.specs.Prelude.{slice_index_or, IfOk, IsOk, OnOk, OnErr, option_map, false};
+ghost use Rattle.std.specs.Prelude.{slice_index_or, IfOk, OnOk, OnErr, option_map};
 ghost use Rattle.std.specs.List.{insert, remove};
 ghost use Rattle.t1_frac.specs.Outcome.{Gives};
 ghost use Rattle.t1_text.specs.Lines.{lines};
@@ -48,9 +57,9 @@ ghost use Rattle.t1_parts.specs.LenIV.{lead};
 ghost use Rattle.t1_parts.specs.Operator.{operator};
 ghost use Rattle.t1_parts.specs.Header.{header};
 ghost use Rattle.t1_source.specs.Codes.{code_of, name_at, name_of_code};
-ghost use Rattle.t1_parts.specs.Stretches.{StandsAloneAt};
 ghost use Rattle.t1_parts.specs.Printing.{text};
-ghost use Rattle.t1_source.specs.Changes.{changed, takes_room, IsInPlaceOf, Suits};
+ghost use Rattle.t1_parts.specs.Counts.{raised};
+ghost use Rattle.t1_source.specs.Changes.{changed, IsInPlaceOf, Suits};
 ghost use Rattle.t1_source.specs.Editing.{with_items, with_clear};
 ghost use Rattle.t1_parts.specs.declared.item.Item.TheVariants as variants;
 
@@ -64,10 +73,19 @@ pub fn read_source(alloc: Global, bytes: &[u8]) -> Result<Source<'_>, Refusal>
     let ReadParts { clear, items, tail } = read_parts(alloc, bytes)?;
     Ok(Source {
         alloc,
-        clear,
+        clear: Rc::new(alloc, clear)?,
         items,
-        tail,
+        tail: Rc::new(alloc, tail)?,
     })
+}
+
+/// Puts a new item in and raises the counts.
+fn inserted<'a>(items: &mut Items<'a>, at: usize, item: Item<'a>) -> Result<(), AllocError>
+    requires { at ≤ length items.old }
+    ensures { OnOk result (items.new ≡ raised (insert items.old at item.entry)) }
+{
+    items.insert(at, item)?;
+    raise(items)
 }
 
 impl<'a> Source<'a> {
@@ -76,15 +94,15 @@ impl<'a> Source<'a> {
         self.alloc
     }
 
-    /// A copy. What the source's own bytes hold of it takes no memory.
+    /// A copy, which shares the texts until they are changed.
     pub fn copied(&self) -> Result<Source<'a>, AllocError>
         ensures { IfOk result (λ copy. copy ≡ self.now) }
     {
         Ok(Source {
             alloc: self.alloc,
-            clear: copied_bytes(self.alloc, self.clear.as_slice())?,
-            items: self.items.copied(self.alloc)?,
-            tail: copied_bytes(self.alloc, self.tail.as_slice())?,
+            clear: self.clear.clone()?,
+            items: self.items.copied()?,
+            tail: self.tail.clone()?,
         })
     }
 
@@ -95,9 +113,9 @@ impl<'a> Source<'a> {
     {
         Ok(Source {
             alloc: self.alloc,
-            clear: copied_bytes(self.alloc, self.clear.as_slice())?,
+            clear: Rc::new(self.alloc, copied_bytes(self.alloc, self.clear())?)?,
             items: self.items.owned(self.alloc)?,
-            tail: copied_bytes(self.alloc, self.tail.as_slice())?,
+            tail: Rc::new(self.alloc, copied_bytes(self.alloc, self.tail())?)?,
         })
     }
 
@@ -195,18 +213,19 @@ impl<'a> Source<'a> {
         has_standard(self.clear.as_slice())
     }
 
-    /// Puts an item in the place of one of its kind and key, which never stands among plain lines.
-    /// It can't fail.
+    /// Puts an item in the place of one of its kind and key. Where memory runs out, nothing has
+    /// changed.
     pub(crate) fn put_item(&mut self, at: usize, item: Item<'a>) -> Result<(), AllocError>
         requires within { at < length self.old.items }
-        requires alone { StandsAloneAt self.old.items at }
         requires kind { IsInPlaceOf (slice_index_or self.old.items at (variants.Plain [])) item }
         requires made { IsWellFormed (with_items self.old (slice_set self.old.items at item)) }
-        ensures put { self.new ≡ with_items self.old (slice_set self.old.items at item.entry) }
-        ensures still { IsOk result }
+        ensures ok { OnOk result
+            (self.new ≡ with_items self.old (slice_set self.old.items at item.entry)) }
+        ensures err { OnErr result (self.new ≡ self.old) }
     {
         let _items = self.kept_items();
-        self.items.put(at, item)
+        self.items.put(at, item)?;
+        Ok(())
     }
 
     /// Puts a new item in and raises the counts. Where memory runs out, nothing has changed.
@@ -217,57 +236,57 @@ impl<'a> Source<'a> {
             (self.new ≡ with_items self.old (insert self.old.items at item.entry)) }
         ensures err { OnErr result (self.new ≡ self.old) }
     {
-        self.items.insert(at, item)?;
-        raise(&mut self.items);
+        let mut items = match self.items.copied() {
+            Ok(items) => items,
+            Err(error) => {
+                drop(item);
+                return Err(error);
+            }
+        };
+        inserted(&mut items, at, item)?;
+        drop(mem::replace(&mut self.items, items));
         Ok(())
     }
 
-    /// Takes an item out that never stands among plain lines. It can't fail.
+    /// Takes an item out. Where memory runs out, nothing has changed.
     pub(crate) fn remove_item(&mut self, at: usize) -> Result<(), AllocError>
         requires within { at < length self.old.items }
-        requires alone { StandsAloneAt self.old.items at }
         requires made { IsWellFormed (with_items self.old (remove self.old.items at)) }
-        ensures removed { self.new ≡ with_items self.old (remove self.old.items at) }
-        ensures still { IsOk result }
+        ensures ok { OnOk result (self.new ≡ with_items self.old (remove self.old.items at)) }
+        ensures err { OnErr result (self.new ≡ self.old) }
     {
         let _items = self.kept_items();
-        self.items.take_out(at)
+        self.items.take_out(at)?;
+        Ok(())
     }
 
-    /// Puts other lines in the place of the clear part.
-    pub(crate) fn put_clear(&mut self, clear: Vec<Bytes>)
+    /// Puts other lines in the place of the clear part. Where memory runs out, nothing has changed.
+    pub(crate) fn put_clear(&mut self, clear: Vec<Bytes>) -> Result<(), AllocError>
         requires { IsWellFormed (with_clear self.old clear.items) }
-        ensures { self.new ≡ with_clear self.old clear.items }
+        ensures ok { OnOk result (self.new ≡ with_clear self.old clear.items) }
+        ensures err { OnErr result (self.new ≡ self.old) }
     {
-        self.clear = clear;
+        self.clear = Rc::new(self.alloc, clear)?;
+        Ok(())
     }
 
-    /// Makes a change that was prepared for this source and these pairs. Only an item or a pair
-    /// that is put in takes memory: where it runs out, nothing has changed.
+    /// Makes a change that was prepared for this source and these pairs. It takes memory for what
+    /// comes in, and for what is changed while a copy shares it: where it runs out, nothing has
+    /// changed.
     pub fn commit(&mut self, pairs: &mut Pairs, change: Change<'a>) -> Result<(), AllocError>
         requires { Suits change self.old pairs.old }
         ensures source { OnOk result (self.new ≡ (changed change.entry self.old pairs.old).0) }
         ensures pairs { OnOk result (pairs.new ≡ (changed change.entry self.old pairs.old).1) }
         ensures err { OnErr result ((self.new ≡ self.old) × (pairs.new ≡ pairs.old)) }
-        ensures still { takes_room change.entry ≡ false → IsOk result }
     {
         match change {
             Change::PutItem(at, item) => self.put_item(at, item),
             Change::InsertItem(at, item) => self.insert_item(at, item),
             Change::RemoveItem(at) => self.remove_item(at),
-            Change::PutClear(lines) => {
-                self.put_clear(lines);
-                Ok(())
-            }
-            Change::PutPair(at, pair) => {
-                pairs.put(at, pair);
-                Ok(())
-            }
+            Change::PutClear(lines) => self.put_clear(lines),
+            Change::PutPair(at, pair) => pairs.put(at, pair),
             Change::InsertPair(at, pair) => pairs.insert(at, pair),
-            Change::RemovePair(at) => {
-                pairs.remove(at);
-                Ok(())
-            }
+            Change::RemovePair(at) => pairs.remove(at),
         }
     }
 }

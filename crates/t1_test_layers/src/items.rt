@@ -128,7 +128,7 @@ fn splits_items_within_lines(rt: HostRuntime) -> Result<(), Fail> {
 #[test]
 fn puts_an_item_in_among_lines(rt: HostRuntime) -> Result<(), Fail> {
     let source = many_lines(rt.alloc())?;
-    let mut items = source.items().copied(rt.alloc())?;
+    let mut items = source.items().copied()?;
     assert!(rt; 40 < items.len());
     items.insert(40, subr(rt.alloc(), 3)?)?;
     assert!(rt; is_subr(items.get(40), 3));
@@ -138,9 +138,39 @@ fn puts_an_item_in_among_lines(rt: HostRuntime) -> Result<(), Fail> {
 #[test]
 fn takes_a_line_out_from_among_others(rt: HostRuntime) -> Result<(), Fail> {
     let source = many_lines(rt.alloc())?;
-    let mut items = source.items().copied(rt.alloc())?;
+    let mut items = source.items().copied()?;
     assert!(rt; 40 < items.len());
     items.take_out(40)?;
     assert_eq!(rt; items.len(), 73);
+    Ok(())
+}
+
+#[test]
+fn leaves_what_is_shared_as_it_is(rt: HostRuntime) -> Result<(), Fail> {
+    let source = many_lines(rt.alloc())?;
+    let items = source.items();
+    let mut copy = items.copied()?;
+    assert!(rt; 40 < copy.len());
+    copy.take_out(40)?;
+    assert_eq!(rt; copy.len(), 73);
+    assert_eq!(rt; items.len(), 74);
+    Ok(())
+}
+
+#[test]
+fn keeps_items_apart_in_several_blocks(rt: HostRuntime) -> Result<(), Fail> {
+    let source = many_lines(rt.alloc())?;
+    let mut items = source.items().copied()?;
+    for number in 0u16..300 {
+        items.push(subr(rt.alloc(), number)?)?;
+    }
+    let before = items.copied()?;
+    assert!(rt; 201 < items.len());
+    items.insert(201, subr(rt.alloc(), 1000)?)?;
+    assert!(rt; is_subr(items.get(200), 126));
+    assert!(rt; is_subr(items.get(201), 1000));
+    assert!(rt; is_subr(items.get(202), 127));
+    assert!(rt; is_subr(items.get(374), 299));
+    assert!(rt; is_subr(before.get(201), 127));
     Ok(())
 }

@@ -1,178 +1,182 @@
 //! What the edits of a batch changed.
-ghost use Rattle.std.specs.Prelude.{◌≡◌, ◌++◌, Ok, MatchResult, OnOk, map};
-ghost use Rattle.std.specs.Option.{option_to_list};
-ghost use Rattle.t1_frac.specs.Outcome.{Gives, Refuses};
-ghost use Rattle.t1_frac.specs.declared.fault.Place.TheVariants as places;
+ghost use Rattle.std.specs.Prelude.{◌≡◌, ◌++◌, ◌∷◌, [], false, true, Ok, IfOk, MatchResult, OnOk};
+ghost use Rattle.std.specs.Prelude.{if◌then◌else◌, map, reverse};
+ghost use Rattle.std.specs.List.{list_any};
+ghost use Rattle.t1_frac.specs.Outcome.{Refuses};
 ghost use Rattle.t1_parts.specs.SourceParts.{SourceParts};
 ghost use Rattle.t1_source.specs.WellFormed.{IsWellFormed};
-ghost use Rattle.t1_run.specs.Run.{Key, Subr, Glyph};
+ghost use Rattle.t1_run.specs.Run.{Key};
 ghost use Rattle.t1_font.specs.Assembly.{file_check};
 ghost use Rattle.t1_font.specs.Bodies.{bodies_check};
-ghost use Rattle.t1_font.specs.declared.owned_key.OwnedKey.TheVariants as named;
 ghost use Rattle.t1_font.specs.OwnedKeys.{key_of};
-ghost use Rattle.t1_held.specs.Batch.{entry_edit, keys};
+ghost use Rattle.t1_held.specs.Batch.{body_of, entry_edit, is_fault, keys};
 ghost use Rattle.t1_held.specs.Drafting.{AreBatchChanges, IsEditedBy};
-ghost use Rattle.t1_held.specs.Passing.{all_removed, after_item, after_items, changes_by, item_put};
-ghost use Rattle.t1_held.specs.Passing.{items_put, mark_at, put_of, removed_at, without_key};
+ghost use Rattle.t1_held.specs.Noting.{added_keys, after_taken, all_bodies, all_taken, changes_by};
+ghost use Rattle.t1_held.specs.Noting.{kept_at, nothing_kept, other_keys, taken_at, with_body};
+ghost use Rattle.t1_held.specs.Noting.{without_key};
 
-use crate::batch::entries::EditedEntry;
-use crate::batch::marks::Marks;
+use crate::batch::entries::{AfterEdit, EditedEntry};
+use crate::batch::last_bodies::LastBodies;
 use std::alloc::{AllocError, Global};
-use t1_code::{compiled_glyph, compiled_subr};
-use t1_font::OwnedKey;
-use t1_frac::{Bytes, Refusal, Words};
-use t1_parts::Items;
+use t1_code::Body;
+use t1_font::{OwnedKey, compiled};
+use t1_frac::Refusal;
 use t1_rerun::EntryChange;
-use t1_source::{Item, Source};
+use t1_source::Source;
 
-/// A Subr with the commands of its words, or their fault, where it is marked; its mark is taken
-/// out.
-fn subr_change(
-    alloc: Global,
-    marks: &mut Marks,
-    number: u16,
-    words: &Words,
-) -> Result<Option<EntryChange>, Refusal>
-    ensures change { Gives (λ change. change) result
-        (put_of (mark_at marks.old (Subr number)) (named.Subr number) (places.Subr number)
-        words.now) }
-    ensures others { (k : Key)
-        → mark_at marks.new k ≡ without_key (Subr number) (mark_at marks.old) k }
-{
-    let Some(moved) = marks.take_subr(number) else {
-        return Ok(None);
-    };
-    let body = compiled_subr(alloc, number, words)?;
-    Ok(Some(EntryChange {
-        named: OwnedKey::Subr(number),
-        body: Some(body),
-        moved,
-    }))
+/// The entries that edits name: the body of each after the last edit that names it, and the
+/// entries of the edits that add one and of the others, in the order of the edits.
+#[derive(Drop)]
+struct Noted {
+    bodies: LastBodies,
+    added: Vec<OwnedKey>,
+    others: Vec<OwnedKey>,
 }
 
-/// A glyph with the commands of its words, or their fault, where it is marked; its mark is taken
-/// out.
-fn glyph_change(
-    alloc: Global,
-    marks: &mut Marks,
-    name: &[u8],
-    words: &Words,
-) -> Result<Option<EntryChange>, Refusal>
-    ensures change { Gives (λ change. change) result
-        (put_of (mark_at marks.old (Glyph name.now)) (named.Glyph name.now)
-        (places.Glyph name.now) words.now) }
-    ensures others { (k : Key)
-        → mark_at marks.new k ≡ without_key (Glyph name.now) (mark_at marks.old) k }
+/// The body of an entry after an edit, where its words have no fault.
+fn body_of(after: AfterEdit) -> Option<Body>
+    ensures { result ≡ body_of after }
 {
-    let Some(moved) = marks.take_glyph(name) else {
-        return Ok(None);
-    };
-    let body = compiled_glyph(alloc, name, words)?;
-    Ok(Some(EntryChange {
-        named: OwnedKey::Glyph(Bytes::copied(alloc, name)?),
-        body: Some(body),
-        moved,
-    }))
-}
-
-/// The entry of an item with its commands, or its fault, where it is marked; its mark is taken out.
-fn item_change(
-    alloc: Global,
-    marks: &mut Marks,
-    item: &Item,
-) -> Result<Option<EntryChange>, Refusal>
-    ensures change { Gives (λ change. change) result (item_put (mark_at marks.old) item.now) }
-    ensures others { (k : Key) → mark_at marks.new k ≡ after_item item.now (mark_at marks.old) k }
-{
-    match item {
-        Item::Subr(number, words, _) => subr_change(alloc, marks, *number, words),
-        Item::Glyph(name, words, _) => glyph_change(alloc, marks, name.as_slice(), words),
-        Item::Plain(_) => Ok(None),
-        Item::Section(_, _, _) => Ok(None),
+    match after {
+        AfterEdit::Body(body) => Some(body),
+        AfterEdit::Fault => None,
+        AfterEdit::Removed => None,
     }
 }
 
-/// Adds a change, where there is one.
-fn push_change(
-    changes: &mut Vec<EntryChange>,
-    change: Option<EntryChange>,
-) -> Result<(), AllocError>
-    ensures { OnOk result (changes.new.items ≡ changes.old.items ++ option_to_list change) }
+impl Noted {
+    /// Notes an entry.
+    fn note(&mut self, alloc: Global, entry: EditedEntry) -> Result<(), AllocError>
+        ensures bodies { OnOk result
+            ((k : Key)
+            → kept_at self.new.bodies k
+            ≡ with_body (key_of entry.named) (body_of entry.after) (kept_at self.old.bodies) k) }
+        ensures added { OnOk result
+            (self.new.added.items
+            ≡ self.old.added.items ++ (if entry.added then entry.named ∷ [] else [])) }
+        ensures others { OnOk result
+            (self.new.others.items
+            ≡ self.old.others.items ++ (if entry.added then [] else entry.named ∷ [])) }
+    {
+        let EditedEntry {
+            named,
+            added,
+            after,
+        } = entry;
+        self.bodies.put(alloc, &named, body_of(after))?;
+        if added {
+            self.added.push(named)?;
+        } else {
+            self.others.push(named)?;
+        }
+        Ok(())
+    }
+}
+
+/// The entries that edits name.
+fn noted_entries(alloc: Global, entries: Vec<EditedEntry>) -> Result<Noted, AllocError>
+    ensures bodies { IfOk result
+        (λ noted.
+        (k : Key) → kept_at noted.bodies k ≡ all_bodies entries.items nothing_kept k) }
+    ensures added { IfOk result (λ noted. noted.added.items ≡ added_keys entries.items) }
+    ensures others { IfOk result (λ noted. noted.others.items ≡ other_keys entries.items) }
 {
-    if let Some(change) = change {
-        changes.push(change)?;
+    let mut noted = Noted {
+        bodies: LastBodies::new(alloc),
+        added: Vec::new(alloc),
+        others: Vec::new(alloc),
+    };
+    for entry in entries {
+        noted.note(alloc, entry)?;
+    }
+    Ok(noted)
+}
+
+/// An entry with its body, where it is still kept; it is taken out.
+fn taken_change(bodies: &mut LastBodies, named: OwnedKey, moved: bool) -> Option<EntryChange>
+    ensures change { result ≡ taken_at (kept_at bodies.old (key_of named)) named moved }
+    ensures others { (k : Key)
+        → kept_at bodies.new k ≡ without_key (key_of named) (kept_at bodies.old) k }
+{
+    let body = bodies.take(&named)?;
+    Some(EntryChange { named, body, moved })
+}
+
+/// Adds the entries that are still kept, each with its body; they are taken out.
+fn push_changes(
+    changes: &mut Vec<EntryChange>,
+    bodies: &mut LastBodies,
+    entries: Vec<OwnedKey>,
+    moved: bool,
+) -> Result<(), AllocError>
+    ensures pushed { OnOk result
+        (changes.new.items
+        ≡ changes.old.items ++ all_taken (kept_at bodies.old) moved entries.items) }
+    ensures left { OnOk result
+        ((k : Key) → kept_at bodies.new k ≡ after_taken entries.items (kept_at bodies.old) k) }
+{
+    for named in entries {
+        if let Some(change) = taken_change(bodies, named, moved) {
+            changes.push(change)?;
+        }
     }
     Ok(())
 }
 
-/// The marked entries of the items, each with its commands, or the first fault of one; their marks
-/// are taken out.
-fn changes_of_items(
-    alloc: Global,
-    marks: &mut Marks,
-    items: &Items,
-) -> Result<Vec<EntryChange>, Refusal>
-    ensures changes { Gives (λ changes. changes.items) result
-        (items_put (mark_at marks.old) items.now) }
-    ensures others { OnOk result
-        ((k : Key) → mark_at marks.new k ≡ after_items items.now (mark_at marks.old) k) }
+/// What became of the entries, each once. Those that an edit added stand last, in the order in
+/// which each was added last.
+fn changes_of(alloc: Global, noted: Noted) -> Result<Vec<EntryChange>, AllocError>
+    ensures { IfOk result
+        (λ changes.
+        changes.items
+        ≡ reverse
+        (all_taken (kept_at noted.bodies) true (reverse noted.added.items)
+        ++ all_taken (after_taken (reverse noted.added.items) (kept_at noted.bodies)) false
+        noted.others.items)) }
 {
+    let Noted {
+        bodies,
+        added,
+        others,
+    } = noted;
+    let mut bodies = bodies;
+    let mut added = added;
     let mut changes = Vec::new(alloc);
-    for item in items.iter().alone() {
-        let change = item_change(alloc, marks, item)?;
-        push_change(&mut changes, change)?;
-    }
+    added.reverse();
+    push_changes(&mut changes, &mut bodies, added, true)?;
+    push_changes(&mut changes, &mut bodies, others, false)?;
+    changes.reverse();
     Ok(changes)
 }
 
-/// An entry that was removed, where it is still marked; its mark is taken out.
-fn removed_change(marks: &mut Marks, named: OwnedKey) -> Option<EntryChange>
-    ensures change { result ≡ removed_at (mark_at marks.old (key_of named)) named }
-    ensures others { (k : Key)
-        → mark_at marks.new k ≡ without_key (key_of named) (mark_at marks.old) k }
-{
-    marks.take(&named)?;
-    Some(EntryChange {
-        named,
-        body: None,
-        moved: false,
-    })
-}
-
-/// Adds the entries that are still marked: they were removed.
-fn push_removed(
-    changes: &mut Vec<EntryChange>,
-    marks: Marks,
-    entries: Vec<EditedEntry>,
-) -> Result<(), AllocError>
-    ensures { OnOk result
-        (changes.new.items ≡ changes.old.items ++ all_removed (mark_at marks) entries.items) }
-{
-    let mut marks = marks;
-    for entry in entries {
-        let change = removed_change(&mut marks, entry.named);
-        push_change(changes, change)?;
-    }
-    Ok(())
-}
-
-/// What became of the entries, or the first fault of one.
+/// What became of the entries, each once.
 fn changes_by_entries(
     alloc: Global,
-    items: &Items,
     entries: Vec<EditedEntry>,
-) -> Result<Vec<EntryChange>, Refusal>
-    ensures { Gives (λ changes. changes.items) result (changes_by entries.items items.now) }
+) -> Result<Vec<EntryChange>, AllocError>
+    ensures { IfOk result (λ changes. changes.items ≡ changes_by entries.items) }
 {
-    let mut marks = Marks::of(alloc, entries.as_slice())?;
-    let mut changes = changes_of_items(alloc, &mut marks, items)?;
-    push_removed(&mut changes, marks, entries)?;
-    Ok(changes)
+    changes_of(alloc, noted_entries(alloc, entries)?)
+}
+
+/// Whether the words of an entry have a fault.
+fn is_fault(after: &AfterEdit) -> bool
+    ensures { result ≡ is_fault after.now }
+{
+    matches!(after, AfterEdit::Fault)
+}
+
+/// Whether the words of an edit have a fault.
+fn have_fault(entries: &[EditedEntry]) -> bool
+    ensures { result ≡ list_any (λ e. is_fault e.after) entries.now }
+{
+    entries.iter().any(|entry| is_fault(&entry.after))
 }
 
 /// What became of the entries that the edits of a batch name, each once: its body in the batch's
 /// source, `None` where it was removed, and whether an edit added it. Or the source's first fault.
-/// It is one pass over the source, and compiles these entries alone.
+/// It costs by the edits; only where the words of one have a fault are all bodies compiled, to find
+/// the first.
 pub fn batch_changes(
     alloc: Global,
     source: &Source,
@@ -187,5 +191,8 @@ pub fn batch_changes(
         AreBatchChanges old source.now (keys (map entry_edit entries.items)) changes.items)
         (λ refusal. Refuses refusal (file_check source.now)) }
 {
-    changes_by_entries(alloc, source.items(), entries)
+    if have_fault(&entries) {
+        drop(compiled(alloc, source.items())?);
+    }
+    Ok(changes_by_entries(alloc, entries)?)
 }

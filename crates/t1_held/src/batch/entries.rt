@@ -1,21 +1,36 @@
 //! The entries that edits name.
 ghost use Rattle.std.specs.Prelude.{◌≡◌, IfOk};
 ghost use Rattle.std.specs.Option.{option_map};
+ghost use Rattle.t1_code.specs.Words.{commands};
+ghost use Rattle.t1_source.specs.Editing.{body_words};
 ghost use Rattle.t1_run.specs.Run.{Glyph};
 ghost use Rattle.t1_font.specs.OwnedKeys.{key_of};
 ghost use Rattle.t1_rerun.specs.Renewing.{entry_key, number_key};
-ghost use Rattle.t1_held.specs.Batch.{adds, entry_edit};
+ghost use Rattle.t1_held.specs.Batch.{adds, after_commands, after_edit, entry_edit};
 
 use std::alloc::{AllocError, Global};
+use t1_code::{Body, compile};
 use t1_font::OwnedKey;
-use t1_frac::Bytes;
-use t1_source::Edit;
+use t1_frac::{Bytes, Refusal};
+use t1_source::{Edit, body_words};
 
-/// An entry that an edit of a batch names, and whether the edit added it.
-#[derive(Debug, Drop)]
+/// What an entry is after an edit that names it.
+#[derive(Drop)]
+pub enum AfterEdit {
+    /// It has this body.
+    Body(Body),
+    /// Its words have a fault.
+    Fault,
+    /// It is removed.
+    Removed,
+}
+
+/// An entry that an edit of a batch names, whether the edit added it, and what it is after it.
+#[derive(Drop)]
 pub struct EditedEntry {
     pub named: OwnedKey,
     pub added: bool,
+    pub after: AfterEdit,
 }
 
 /// The Subr of this number, where the number has 16 bits.
@@ -66,17 +81,48 @@ fn adds_entry(edit: &Edit) -> bool
     }
 }
 
+/// An entry that an edit gives this body.
+fn after_body(alloc: Global, body: &Bytes) -> Result<AfterEdit, AllocError>
+    ensures { IfOk result (λ after. after ≡ after_commands (commands (body_words body.now))) }
+{
+    let words = body_words(alloc, body.as_slice())?;
+    match compile(alloc, &words) {
+        Ok(body) => Ok(AfterEdit::Body(body)),
+        Err(Refusal::Fault(_)) => Ok(AfterEdit::Fault),
+        Err(Refusal::Memory) => Err(AllocError),
+    }
+}
+
+/// What the entry that an edit names is after it.
+fn after_edit(alloc: Global, edit: &Edit) -> Result<AfterEdit, AllocError>
+    ensures { IfOk result (λ after. after ≡ after_edit edit.now) }
+{
+    match edit {
+        Edit::ReplaceGlyph(_, body) => after_body(alloc, body),
+        Edit::AddGlyph(_, body) => after_body(alloc, body),
+        Edit::ReplaceSubr(_, body) => after_body(alloc, body),
+        Edit::AddSubr(_, body) => after_body(alloc, body),
+        _ => Ok(AfterEdit::Removed),
+    }
+}
+
 /// The entry that an edit names, where it names one.
 pub fn edited_entry(alloc: Global, edit: &Edit) -> Result<Option<EditedEntry>, AllocError>
     ensures { IfOk result
         (λ entry.
         option_map entry_edit entry
-        ≡ option_map (λ key. record { key = key; added = adds edit.now })
+        ≡ option_map
+        (λ key. record { key = key; added = adds edit.now; after = after_edit edit.now })
         (entry_key edit.now)) }
 {
     let Some(named) = named_entry(alloc, edit)? else {
         return Ok(None);
     };
     let added = adds_entry(edit);
-    Ok(Some(EditedEntry { named, added }))
+    let after = after_edit(alloc, edit)?;
+    Ok(Some(EditedEntry {
+        named,
+        added,
+        after,
+    }))
 }

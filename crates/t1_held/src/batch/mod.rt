@@ -1,36 +1,52 @@
 //! The edits of an open batch, and what they changed.
 //!
 //! A [`Batch`] makes the edits of an open batch on copies of a source and its pairs, and notes the
-//! entries that they name. At its commit [`batch_changes`] gives what became of these entries, by
-//! one pass over the edited source, or the source's first fault.
+//! entries that they name with the bodies that they give them. At its commit [`batch_changes`]
+//! gives what became of these entries, or the source's first fault.
 mod changes;
 mod entries;
-mod marks;
+mod last_bodies;
 
 pub use changes::batch_changes;
-pub use entries::EditedEntry;
+pub use entries::{AfterEdit, EditedEntry};
 use std::marker::Model;
 use t1_pairs::Pairs;
 use t1_source::Source;
 
-/// The source and the pairs after the edits of a batch so far, and the entries that the edits name,
-/// in the order of the edits.
+/// What the edits of a batch name and change, for its commit.
+#[derive(Drop)]
+pub struct BatchEdits {
+    /// The entries that they name, in the order of the edits.
+    pub entries: Vec<EditedEntry>,
+    /// What they change of the lines beside their charstrings, in bytes, counted from 2^63, since
+    /// they may take out more than they put in; `None` where the count was given up.
+    pub beside: Option<usize>,
+}
+
+/// The source and the pairs after the edits of a batch so far, and what the edits name and change.
 #[derive(Drop)]
 pub struct Batch<'a> {
     source: Source<'a>,
     pairs: Pairs,
-    entries: Vec<EditedEntry>,
+    edits: BatchEdits,
 }
 
 impl<'a> Model for Batch<'a> {
     ghost use Rattle.std.specs.Prelude.{map};
-    ghost use Rattle.t1_held.specs.Batch.{Draft, entry_edit};
+    ghost use Rattle.t1_held.specs.Batch.{DraftedBatch, entry_edit};
 
-    ghost Value = { Draft };
+    ghost Value = { DraftedBatch };
 
     ghost view = { λ b.
-        record
-        { source = b.source; pairs = b.pairs; entries = map entry_edit b.entries.items } };
+        record {
+          draft =
+              record {
+                source = b.source;
+                pairs = b.pairs;
+                entries = map entry_edit b.edits.entries.items;
+              };
+          beside = b.edits.beside;
+        } };
 }
 
 ghost use Rattle.std.specs.Prelude.{◌≡◌, ◌<◌, ◌++◌, [], vec_capacity, vec_len, IfOk, OnOk, map};
@@ -38,12 +54,17 @@ ghost use Rattle.std.specs.Option.{option_map, option_to_list};
 ghost use Rattle.t1_parts.specs.SourceParts.{SourceParts};
 ghost use Rattle.t1_source.specs.WellFormed.{IsWellFormed};
 ghost use Rattle.t1_rerun.specs.Renewing.{entry_key};
-ghost use Rattle.t1_held.specs.Batch.{adds, entry_edit};
+ghost use Rattle.t1_held.specs.Batch.{adds, after_edit, entry_edit};
 ghost use Rattle.t1_held.specs.Drafting.{Drafts, IsDraftOf};
 
 use crate::batch::entries::edited_entry;
 use std::alloc::{AllocError, Global};
+use t1_charstrings::len_beside;
+use t1_source::laws::source_is_well_formed;
 use t1_source::{Cause, Edit, Hint};
+
+/// Where the count of the lines beside their charstrings begins.
+pub const COUNT_BEGIN: usize = 1 << 63;
 
 /// The entry that an edit names, where it names one, and room for it among those that were noted.
 fn entry_with_room(
@@ -54,7 +75,8 @@ fn entry_with_room(
     ensures entry { IfOk result
         (λ entry.
         option_map entry_edit entry
-        ≡ option_map (λ key. record { key = key; added = adds edit.now })
+        ≡ option_map
+        (λ key. record { key = key; added = adds edit.now; after = after_edit edit.now })
         (entry_key edit.now)) }
     ensures same { entries.new.items ≡ entries.old.items }
     ensures room { OnOk result (vec_len entries.new < vec_capacity entries.new) }
@@ -78,13 +100,17 @@ impl<'a> Batch<'a> {
     /// A batch without edits, on copies of a source and its pairs.
     pub fn of(alloc: Global, source: &Source<'a>, pairs: &Pairs) -> Result<Batch<'a>, AllocError>
         ensures made { IfOk result
-            (λ batch. batch ≡ record { source = source.now; pairs = pairs.now; entries = [] }) }
+            (λ batch.
+            batch.draft ≡ record { source = source.now; pairs = pairs.now; entries = [] }) }
         ensures draft { IsWellFormed source.now → IfOk result (IsDraftOf source.now) }
     {
         Ok(Batch {
             source: source.copied()?,
             pairs: pairs.copied()?,
-            entries: Vec::new(alloc),
+            edits: BatchEdits {
+                entries: Vec::new(alloc),
+                beside: Some(COUNT_BEGIN),
+            },
         })
     }
 
@@ -92,16 +118,19 @@ impl<'a> Batch<'a> {
     /// nothing, as where memory runs out. No glyph is run. An entry that the edit replaces or takes
     /// out is looked for first among the few items before a place.
     pub fn edit(&mut self, alloc: Global, edit: &Edit, near: usize) -> Result<(), Cause>
-        ensures edited { Drafts self.old edit.now result self.new }
+        ensures edited { Drafts self.old.draft edit.now result self.new.draft }
         ensures draft { (s : SourceParts) → IsDraftOf s self.old → IsDraftOf s self.new }
     {
         let change = self
             .source
             .prepared_near(&self.pairs, edit, Hint::Near(near))?;
-        match entry_with_room(alloc, &mut self.entries, edit) {
+        source_is_well_formed(&self.source);
+        let beside = len_beside(self.edits.beside, &self.source, &change);
+        match entry_with_room(alloc, &mut self.edits.entries, edit) {
             Ok(entry) => {
                 self.source.commit(&mut self.pairs, change)?;
-                note(&mut self.entries, entry);
+                self.edits.beside = beside;
+                note(&mut self.edits.entries, entry);
                 Ok(())
             }
             Err(error) => {
@@ -113,17 +142,18 @@ impl<'a> Batch<'a> {
 
     /// Its source.
     pub fn source(&self) -> &Source<'a>
-        ensures { result.now ≡ self.now.source }
+        ensures { result.now ≡ self.now.draft.source }
     {
         &self.source
     }
 
-    /// Its source, its pairs, and the entries that its edits name. It takes no memory.
-    pub fn into_parts(self) -> (Source<'a>, Pairs, Vec<EditedEntry>)
-        ensures source { result.0 ≡ self.entry.source }
-        ensures pairs { result.1 ≡ self.entry.pairs }
-        ensures entries { map entry_edit result.2.items ≡ self.entry.entries }
+    /// Its source, its pairs, and what its edits name and change. It takes no memory.
+    pub fn into_parts(self) -> (Source<'a>, Pairs, BatchEdits)
+        ensures source { result.0 ≡ self.entry.draft.source }
+        ensures pairs { result.1 ≡ self.entry.draft.pairs }
+        ensures entries { map entry_edit result.2.entries.items ≡ self.entry.draft.entries }
+        ensures beside { result.2.beside ≡ self.entry.beside }
     {
-        (self.source, self.pairs, self.entries)
+        (self.source, self.pairs, self.edits)
     }
 }

@@ -1,12 +1,13 @@
-use Rattle.std.proofs.Common.{arith}
-use Rattle.t1_buckets.proofs.JoinLaws.{cut_made, cut_failed}
+use Rattle.std.proofs.Common.{◌≡◌, ◌++◌, ap, ◌∙◌, arith}
+use Rattle.t1_buckets.proofs.SharedLaws.{cut_buckets}
 use Rattle.t1_buckets.proofs.edits.cut.Goals as goal
-
-pub returns-in_err-back : goal.returns-in_err-back
-returns-in_err-back g c =
-    cut_failed c.args.index c.args.buckets.now.items c.reserve.new.self.items c.index_mut.result.now c.split.new.self c.reserve.ensures.items c.requires.within c.index_mut.ensures.value c.in_err-back.ensures.err
 
 pub returns : goal.returns
 returns g c =
-    cut_made c.args.index c.args.buckets.now.items c.reserve.new.self.items c.insert-room_was_reserved.new.self.items c.index_mut.result.now c.split.new.self c.in_ok-back.back _
-    c.reserve.ensures.items c.requires.within c.index_mut.ensures.value c.in_ok-back.ensures.ok (c.insert-room_was_reserved.ensures.succeeds (omega (arith, c.in_ok-reserve.ensures.ok))) c.insert-room_was_reserved.ensures.items
+    let old = c.args.buckets.now.items in
+    let b = c.index.result.now in
+    let f = c.in_ok-front-2.front in
+    let k = c.in_ok-back.back in
+    let whole : f.value ++ k.value ≡ b.value = ap (λ t. t ++ k.value) c.in_ok-front-2.ensures.ok ∙ ap (λ t. c.in_ok-front.front ++ t) c.in_ok-back.ensures.ok ∙ c.in_ok-front.ensures ∙ c.deref.ensures in
+    cut_buckets c.args.index old c.reserve.new.self.items c.insert-room_was_reserved.new.self.items b f k _ c.reserve.ensures.items c.requires.within c.index.ensures whole
+    (c.insert-room_was_reserved.ensures.succeeds (omega (arith, c.in_ok-reserve.ensures.ok))) c.insert-room_was_reserved.ensures.items

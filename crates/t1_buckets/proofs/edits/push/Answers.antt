@@ -1,12 +1,12 @@
-use Rattle.std.proofs.Common.{ap, length, ◌∙◌, arith}
-use Rattle.std.specs.List.{slice_set}
+use Rattle.std.proofs.Common.{ap, length, sym, ◌∙◌, arith}
 use Rattle.std.proofs.lemmas.Result.{on_ok_weaker}
-use Rattle.t1_buckets.specs.Buckets.{buckets_joined}
-use Rattle.t1_buckets.proofs.JoinLaws.{pushed_last}
+use Rattle.t1_buckets.proofs.SharedLaws.{added_last, bucket_here}
 use Rattle.t1_buckets.proofs.edits.push.Goals as goal
 
 pub returns-clause-ok : goal.returns-clause-ok
 returns-clause-ok g c =
     let bs = c.args.buckets.now.items in
-    on_ok_weaker c.push-2.result (λ e. ap (λ b. buckets_joined (slice_set bs c.in-Some.last b)) e
-    ∙ pushed_last c.in-Some.last bs c.index_mut.result.now c.args.element (omega (arith, c.in-Some.ensures, ap length c.as_slice.ensures.value)) c.index_mut.ensures.value) c.push-2.ensures.ok
+    let last = c.in-Some.last in
+    let size = ap length c.as_slice.ensures.value in
+    let end = c.len-end.ensures.value ∙ ap length (c.deref.ensures ∙ sym (bucket_here last bs c.index.result.now (omega (arith, c.in-Some.ensures, size)) c.index.ensures)) in
+    on_ok_weaker c.insert_into.result (λ e. added_last last c.len-end.result bs c.insert_into.new.buckets.items c.args.element (omega (arith, c.in-Some.ensures, size)) end e) c.insert_into.ensures.ok

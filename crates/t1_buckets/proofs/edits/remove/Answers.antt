@@ -1,20 +1,19 @@
-use Rattle.std.proofs.Common.{ap, subst, arith, ◌∙◌}
-use Rattle.std.specs.List.{slice_set}
-use Rattle.t1_buckets.specs.Buckets.{buckets_joined}
+use Rattle.std.proofs.Common.{ap, length, subst, sym, ◌∙◌, arith}
+use Rattle.std.proofs.lemmas.Result.{on_ok_weaker}
 use Rattle.t1_buckets.specs.BucketPlaces.{IsPlaceInBuckets}
-use Rattle.t1_buckets.proofs.JoinLaws.{remove_at, bucket_removed}
+use Rattle.t1_buckets.specs.Buckets.{lists_of}
+use Rattle.t1_buckets.proofs.SharedLaws.{bucket_here, gone_there, index_within, taken_there}
 use Rattle.t1_buckets.proofs.edits.remove.Goals as goal
 
-pub returns-then-len-eq1 : goal.returns-then-len-eq1
-returns-then-len-eq1 g c =
+pub returns-then-len-eq1-clause-ok : goal.returns-then-len-eq1-clause-ok
+returns-then-len-eq1-clause-ok g c =
     let bs = c.args.buckets.now.items in
-    let p = c.place_of-index.result in
-    let place : IsPlaceInBuckets c.args.at bs p = subst (λ xs. IsPlaceInBuckets c.args.at xs p) c.as_slice.ensures.value c.place_of-index.ensures in
-    ap buckets_joined c.remove.ensures.items ∙ bucket_removed c.args.at bs p c.index.result.now place c.index.ensures (omega (arith, c.len.ensures.value, c.if-len-eq1.true))
+    let place : IsPlaceInBuckets c.args.at (lists_of bs) c.place_of-index.result = subst (λ xs. IsPlaceInBuckets c.args.at (lists_of xs) c.place_of-index.result) c.as_slice.ensures.value c.place_of-index.ensures in
+    let here = ap length (c.deref.ensures ∙ sym (bucket_here c.place_of-index.result.0 bs c.index.result.now (index_within c.args.at bs c.place_of-index.result place) c.index.ensures)) in
+    gone_there c.args.at bs c.place_of-index.result place c.remove.new.self.items c.remove.ensures.items (omega (arith, here, c.len.ensures.value, c.if-len-eq1.true))
 
-pub returns : goal.returns
-returns g c =
+pub returns-clause-ok : goal.returns-clause-ok
+returns-clause-ok g c =
     let bs = c.args.buckets.now.items in
-    let p = c.place_of-index.result in
-    let place : IsPlaceInBuckets c.args.at bs p = subst (λ xs. IsPlaceInBuckets c.args.at xs p) c.as_slice.ensures.value c.place_of-index.ensures in
-    ap (λ b. buckets_joined (slice_set bs p.0 b)) c.remove-2.ensures ∙ remove_at c.args.at bs p c.index_mut.result.now place c.index_mut.ensures.value
+    let place : IsPlaceInBuckets c.args.at (lists_of bs) c.place_of-index.result = subst (λ xs. IsPlaceInBuckets c.args.at (lists_of xs) c.place_of-index.result) c.as_slice.ensures.value c.place_of-index.ensures in
+    on_ok_weaker c.take_from.result (λ e. taken_there c.args.at bs c.place_of-index.result place c.take_from.new.buckets.items e) c.take_from.ensures.ok

@@ -9,14 +9,14 @@ use Rattle.t1_charstrings.proofs.lengths.len_after.Goals as goal
 
 pub len_changed-requires-clause-prepared : goal.len_changed-requires-clause-prepared
 len_changed-requires-clause-prepared c =
-    (prepared_for c.args.made.now c.in-Some.change.now c.args.source.now c.args.private_len c.requires.prepared (sym c.in-Some.ensures.value)).1
+    (prepared_for c.args.made.now c.in-Some.change.now c.args.source.now c.args.private_len c.args.beside c.requires.prepared (sym c.in-Some.ensures.value)).1
 
 pub returns-in-Some-clause-lead : goal.returns-in-Some-clause-lead
 returns-in-Some-clause-lead c =
     let change = c.in-Some.change.now in
     let s = c.args.source.now in
     let kept = c.args.charstrings.now in
-    let is = is_changed c.args.made.now change s c.args.private_len c.requires.prepared (sym c.in-Some.ensures.value) in
+    let is = is_changed c.args.made.now change s c.args.private_len c.args.beside c.requires.prepared (sym c.in-Some.ensures.value) in
     let fits = subst (λ (e : EditedParts). IsFor change e.source) is c.in-Some.ensures.fits in
     let edits = subst (λ (e : EditedParts). AreEdits s (made_of e) kept c.args.entries.now) is c.requires.edits in
     let entry = not-false (is_entry_changed change s) (subst (λ (e : EditedParts). may_set_lead s e ≡ false) is c.requires.lead) in

@@ -1,4 +1,4 @@
-use Rattle.std.proofs.Common.{◌≡◌, ◌∙◌, ap, refl, false, true, not}
+use Rattle.std.proofs.Common.{◌≡◌, ◌∙◌, None, ap, refl, false, true, not}
 use Rattle.std.proofs.lemmas.Result.{err_from_is_err_and}
 use Rattle.t1_source.specs.Changes.{changed, is_entry_changed}
 use Rattle.t1_source.specs.EditedSource.{may_set_lead}
@@ -37,28 +37,28 @@ returns-in_err-changes-clause-counted c =
 pub prepare_edits-requires : goal.prepare_edits-requires
 prepare_edits-requires c =
     let right = edit_right c.args.source.now c.args.pairs.now c.args.edit.now c.args.change.now c.args.held.now c.requires
-    (record { source = c.args.source; made = c.prepared-made.result; changes = c.in_ok-changes.changes }) refl c.prepared-made.ensures
+    (record { source = c.args.source; made = c.prepared-made.result; changes = c.in_ok-changes.changes; beside = None }) refl c.prepared-made.ensures
     (c.in_ok-changes.ensures c.args.source.now c.args.pairs.now c.args.change.now c.args.held.now c.requires) in
     (named c.args.edit.now, ((changed c.args.change.now c.args.source.now c.args.pairs.now).0, right))
 
 pub returns-clause-checked : goal.returns-clause-checked
 returns-clause-checked c =
     let right = edit_right c.args.source.now c.args.pairs.now c.args.edit.now c.args.change.now c.args.held.now c.requires
-    (record { source = c.args.source; made = c.prepared-made.result; changes = c.in_ok-changes.changes }) refl c.prepared-made.ensures
+    (record { source = c.args.source; made = c.prepared-made.result; changes = c.in_ok-changes.changes; beside = None }) refl c.prepared-made.ensures
     (c.in_ok-changes.ensures c.args.source.now c.args.pairs.now c.args.change.now c.args.held.now c.requires) in
     c.prepare_edits.ensures.checked (named c.args.edit.now) (changed c.args.change.now c.args.source.now c.args.pairs.now).0 right
 
 pub returns-clause-ready : goal.returns-clause-ready
 returns-clause-ready c =
     let right = edit_right c.args.source.now c.args.pairs.now c.args.edit.now c.args.change.now c.args.held.now c.requires
-    (record { source = c.args.source; made = c.prepared-made.result; changes = c.in_ok-changes.changes }) refl c.prepared-made.ensures
+    (record { source = c.args.source; made = c.prepared-made.result; changes = c.in_ok-changes.changes; beside = None }) refl c.prepared-made.ensures
     (c.in_ok-changes.ensures c.args.source.now c.args.pairs.now c.args.change.now c.args.held.now c.requires) in
     c.prepare_edits.ensures.ready (named c.args.edit.now) (changed c.args.change.now c.args.source.now c.args.pairs.now).0 right
 
 pub returns-clause-counted : goal.returns-clause-counted
 returns-clause-counted c =
     let right = edit_right c.args.source.now c.args.pairs.now c.args.edit.now c.args.change.now c.args.held.now c.requires
-    (record { source = c.args.source; made = c.prepared-made.result; changes = c.in_ok-changes.changes }) refl c.prepared-made.ensures
+    (record { source = c.args.source; made = c.prepared-made.result; changes = c.in_ok-changes.changes; beside = None }) refl c.prepared-made.ensures
     (c.in_ok-changes.ensures c.args.source.now c.args.pairs.now c.args.change.now c.args.held.now c.requires) in
     c.prepare_edits.ensures.counted (named c.args.edit.now) (changed c.args.change.now c.args.source.now c.args.pairs.now).0 right
 
@@ -68,7 +68,7 @@ returns-clause-encrypted c =
     let ks = named c.args.edit.now in
     let made = c.prepared-made in
     let right = edit_right c.args.source.now c.args.pairs.now c.args.edit.now c.args.change.now c.args.held.now c.requires
-    (record { source = c.args.source; made = c.prepared-made.result; changes = c.in_ok-changes.changes }) refl c.prepared-made.ensures
+    (record { source = c.args.source; made = c.prepared-made.result; changes = c.in_ok-changes.changes; beside = None }) refl c.prepared-made.ensures
     (c.in_ok-changes.ensures c.args.source.now c.args.pairs.now c.args.change.now c.args.held.now c.requires) in
     mapped_ok (λ (ready : ReadyHeld). may_set_lead s made.result ≡ false → EncryptsAt ks ready.lines.charstrings)
     (λ (ready : ReadyHeld). is_entry_changed c.args.change.now s ≡ true → EncryptsAt ks ready.lines.charstrings) c.prepare_edits.result

@@ -14,4 +14,4 @@ returns c =
     let size : length (lines parts.clear.now ++ parts.eexec.now ∷ []) ≡ length c.as_slice.result.now = ap length (sym whole) ∙ ap length (sym c.as_slice.ensures.value) in
     let items = ap (λ n. private_items (n + 1) (lines parts.private.now ++ parts.closefile.now ∷ [])) size ∙ c.in_ok-items.ensures in
     made_is_read _ _ _ _ _ _ c.in_ok-parts.ensures (ap clear_check (sym clear) ∙ sym c.in_ok-check_clear.ensures) items (sym c.in_ok-check_whole.ensures) whole
-    (c.raise.ensures ∙ ap raised c.in_ok-items-2.ensures) c.in_ok-tail.ensures
+    (c.in_ok-raise.ensures.ok ∙ ap raised c.in_ok-items-2.ensures) c.in_ok-tail.ensures

@@ -1,15 +1,11 @@
-use Rattle.std.proofs.Common.{◌≡◌, ◌+◌, ◌<◌, ◌++◌, ◌∷◌, ℕ, List, IfOk, IfErr, MatchOption, length, take, ap, sym, ◌∙◌, subst, arith, rules}
-use Rattle.std.proofs.lemmas.List.{length-take-le}
+use Rattle.std.proofs.Common.{◌≡◌, ◌<◌, ◌∷◌, ℕ, List, IfOk, IfErr, MatchOption, length, take, sym, subst, arith, rules}
 use Rattle.t1_frac.specs.Outcome.{Refuses}
-use Rattle.t1_frac.specs.declared.fault.Refusal.{Refusal}
 use Rattle.t1_text.specs.Lines.{lines}
 use Rattle.t1_text.proofs.CutLaws.{lines_within}
-use Rattle.t1_parts.specs.Entries.{NumberedItem, has_numbered}
+use Rattle.t1_parts.specs.Entries.{has_numbered}
 use Rattle.t1_parts.specs.LineKinds.{IsOfKind}
-use Rattle.t1_parts.specs.NumberedStretches.{numbered_lines}
-use Rattle.t1_parts.specs.PlainRuns.{read_from, AreAmong}
+use Rattle.t1_parts.specs.PlainRuns.{read_from}
 use Rattle.t1_parts.specs.Sections.{is_subrs_line, is_glyphs_line}
-use Rattle.t1_parts.specs.Stretches.{IsCutAfter}
 use Rattle.t1_parts.proofs.LineKindLaws.{still_of_kind}
 use Rattle.t1_parts.proofs.PlainRunLaws.{plain_read}
 use Rattle.t1_parts.proofs.RunCutLaws.{some_lines}

@@ -1,16 +1,33 @@
+use Rattle.std.proofs.Common.{◌∙◌, ap, subst, sym}
+use Rattle.t1_source.proofs.EditedSourceLaws.{source_alone}
+use Rattle.t1_charstrings.specs.Beside.{IsKeptBeside}
+use Rattle.t1_held.specs.Batch.{count_begin, DraftedBatch}
 use Rattle.t1_held.proofs.Drafting.{draft-of, drafts}
 use Rattle.t1_held.proofs.batch.Batch.edit.Goals as goal
 
+pub len_beside-beside-requires : goal.len_beside-beside-requires
+len_beside-beside-requires c =
+    record { pairs = c.self.inside.pairs; serves = c.in_ok-change.ensures.serves; well = c.source_is_well_formed.ensures }
+
 pub returns-in_ok-commit-in-Ok-clause-edited : goal.returns-in_ok-commit-in-Ok-clause-edited
 returns-in_ok-commit-in-Ok-clause-edited c =
-    drafts c.args.self.now c.args.edit.now c.in_ok-change.change c.self.inside.source c.commit.new.self c.self.inside.pairs c.commit.new.pairs
-    c.in-Ok.entry c.self.inside.entries.items c.entry_with_room.new.entries.items c.note.new.entries.items
-    c.self.view_is c.in_ok-change.ensures.change c.in_ok-commit-in-Ok.ensures.source c.in_ok-commit-in-Ok.ensures.pairs c.in-Ok.ensures.entry
+    drafts c.args.self.now.draft c.args.edit.now c.in_ok-change.change c.self.inside.source c.commit.new.self c.self.inside.pairs c.commit.new.pairs
+    c.in-Ok.entry c.self.inside.edits.entries.items c.entry_with_room.new.entries.items c.note.new.entries.items
+    (ap (λ (b : DraftedBatch). b.draft) c.self.view_is) c.in_ok-change.ensures.change c.in_ok-commit-in-Ok.ensures.source c.in_ok-commit-in-Ok.ensures.pairs c.in-Ok.ensures.entry
     c.in-Ok.ensures.same c.note.ensures
 
 pub returns-in_ok-commit-in-Ok-clause-draft : goal.returns-in_ok-commit-in-Ok-clause-draft
-returns-in_ok-commit-in-Ok-clause-draft c =
-    draft-of c.args.self.now c.args.edit.now c.in_ok-change.change c.self.inside.source c.commit.new.self c.self.inside.pairs c.commit.new.pairs
-    c.in-Ok.entry c.self.inside.entries.items c.entry_with_room.new.entries.items c.note.new.entries.items
-    c.self.view_is c.in_ok-change.ensures.change c.in_ok-commit-in-Ok.ensures.source c.in_ok-commit-in-Ok.ensures.pairs c.in-Ok.ensures.entry
-    c.in-Ok.ensures.same c.note.ensures c.in_ok-change.ensures.serves.source
+returns-in_ok-commit-in-Ok-clause-draft c = λ s was.
+    let change = c.in_ok-change.change in
+    let source = c.self.inside.source in
+    record {
+      edited =
+          draft-of c.args.self.now.draft c.args.edit.now change source c.commit.new.self c.self.inside.pairs c.commit.new.pairs
+          c.in-Ok.entry c.self.inside.edits.entries.items c.entry_with_room.new.entries.items c.note.new.entries.items
+          (ap (λ (b : DraftedBatch). b.draft) c.self.view_is) c.in_ok-change.ensures.change c.in_ok-commit-in-Ok.ensures.source c.in_ok-commit-in-Ok.ensures.pairs c.in-Ok.ensures.entry
+          c.in-Ok.ensures.same c.note.ensures c.in_ok-change.ensures.serves.source s was.edited;
+      beside =
+          subst (λ t. IsKeptBeside s count_begin t c.len_beside-beside.result)
+          (source_alone change source c.self.inside.pairs ∙ sym c.in_ok-commit-in-Ok.ensures.source)
+          (c.len_beside-beside.ensures s count_begin (subst (λ (b : DraftedBatch). IsKeptBeside s count_begin b.draft.source b.beside) (sym c.self.view_is) was.beside));
+    }

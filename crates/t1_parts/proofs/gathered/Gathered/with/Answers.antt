@@ -1,8 +1,7 @@
-use Rattle.std.proofs.Common.{◌∷◌, [], ◌++◌, ◌∙◌, ap, refl}
+use Rattle.std.proofs.Common.{◌∷◌, [], ◌++◌, ◌∙◌, ap}
 use Rattle.t1_parts.specs.Sections.{is_subrs_line, is_glyphs_line}
 use Rattle.t1_parts.specs.NumberedStretches.{numbered_in}
 use Rattle.t1_parts.proofs.NumberedLaws.{with_one, same_pushed}
-use Rattle.t1_parts.proofs.SingleLaws.{single_pushed}
 use Rattle.t1_parts.specs.declared.stretch.Stretch.TheVariants.{One}
 use Rattle.t1_parts.proofs.KeyLaws.{or_more}
 use Rattle.t1_parts.proofs.gathered.Gathered.with.Goals as goal
@@ -17,7 +16,6 @@ invariant_of-result c =
       c.in_ok-push_item.ensures.subrs items c.args.number c.self.invariant.2,
       c.in_ok-push_item.ensures.glyphs items c.args.number c.args.item c.requires c.self.invariant.3,
       same_pushed old.numbers.items old.stretches.items c.args.number (One c.args.item) c.self.invariant.4,
-      λ on. single_pushed old.stretches.items (One c.args.item) (c.self.invariant.5 on) refl,
     )
 
 pub returns : goal.returns

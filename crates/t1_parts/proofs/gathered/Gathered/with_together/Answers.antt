@@ -15,7 +15,6 @@ invariant_of-result c =
       numbers_with_lines old.subrs.keys items c.args.number c.args.plain c.self.invariant.2,
       names_with_lines old.glyphs.keys items c.args.number c.args.plain c.self.invariant.3,
       same_pushed old.numbers.items old.stretches.items c.args.number (Lines c.args.plain) c.self.invariant.4,
-      λ on. absurd (cc),
     )
 
 pub returns : goal.returns

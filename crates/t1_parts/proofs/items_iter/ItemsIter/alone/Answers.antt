@@ -7,5 +7,5 @@ use Rattle.t1_parts.proofs.items_iter.ItemsIter.alone.Goals as goal
 pub returns : goal.returns
 returns c =
     let left = c.self.inside in
-    c.among.ensures ∙ alone_between left.first (lines left.front.now) (lines left.back.now) left.stretches.rest.now c.self.invariant.1 c.self.invariant.2
+    c.among.ensures ∙ alone_between left.first (lines left.front.now) (lines left.back.now) left.stretches c.self.invariant.1 c.self.invariant.2
     ∙ ap (filter stands_alone) c.self.view_is

@@ -15,7 +15,7 @@ returns-in-Single-clause-takes c =
     let now = c.args.self.now in
     let is = c.self.view_is in
     let edit = c.in-Single.edit in
-    let had : s.batch ≡ batches.Single edit = search rules in
+    let had : s.batch ≡ batches.Single edit c.in-Single._near = search rules in
     let made = subst (IsOpenOn s.source s.pairs) had c.self.invariant.1 in
     let closed : c.replace.new.dest ≡ batches.Closed = search rules in
     let state-of : OpenBatch → SessionState = λ b. record { source = s.source; pairs = s.pairs; batch = open_draft s.source s.pairs b; refused = s.refused } in
@@ -26,7 +26,7 @@ returns-in-Single-clause-takes c =
       runs = s.meter;
     } in
     commit_takes (draft_of_edit edit made.0) now taken c.commit_single.new.self c.commit_single.result.0 c.commit_single.result.1
-    (ap (λ (v : SessionView). v.state.batch) (sym is) ∙ ap (open_draft s.source s.pairs) had ∙ single_draft s.source s.pairs edit made.0 made.1)
+    (ap (λ (v : SessionView). v.state.batch) (sym is) ∙ ap (open_draft s.source s.pairs) had ∙ single_draft s.source s.pairs edit c.in-Single._near made.0 made.1)
     (ap state-of closed ∙ ap (λ (v : SessionView). without_batch v.state) is) (ap (λ (v : SessionView). v.kept) is) (ap (λ (v : SessionView). v.runs) is)
     (c.commit_single.ensures made.0 made.1)
 
@@ -36,7 +36,7 @@ returns-in-Single-clause-runs c =
     let now = c.args.self.now in
     let is = c.self.view_is in
     let edit = c.in-Single.edit in
-    let had : s.batch ≡ batches.Single edit = search rules in
+    let had : s.batch ≡ batches.Single edit c.in-Single._near = search rules in
     let made = subst (IsOpenOn s.source s.pairs) had c.self.invariant.1 in
     let closed : c.replace.new.dest ≡ batches.Closed = search rules in
     let state-of : OpenBatch → SessionState = λ b. record { source = s.source; pairs = s.pairs; batch = open_draft s.source s.pairs b; refused = s.refused } in
@@ -47,7 +47,7 @@ returns-in-Single-clause-runs c =
       runs = s.meter;
     } in
     commit_reruns (draft_of_edit edit made.0) now taken c.commit_single.new.self c.commit_single.result.0 c.commit_single.result.1
-    (ap (λ (v : SessionView). v.state.batch) (sym is) ∙ ap (open_draft s.source s.pairs) had ∙ single_draft s.source s.pairs edit made.0 made.1)
+    (ap (λ (v : SessionView). v.state.batch) (sym is) ∙ ap (open_draft s.source s.pairs) had ∙ single_draft s.source s.pairs edit c.in-Single._near made.0 made.1)
     (ap state-of closed ∙ ap (λ (v : SessionView). without_batch v.state) is) (ap (λ (v : SessionView). v.kept) is) (ap (λ (v : SessionView). v.runs) is)
     (c.commit_single.ensures made.0 made.1)
 
@@ -65,7 +65,7 @@ returns-in-Drafted-clause-runs c =
       users = user_table s.held.records;
       runs = s.meter;
     } in
-    commit_reruns c.in-Drafted.batch now taken c.commit_drafted.new.self c.commit_drafted.result.0 c.commit_drafted.result.1
+    commit_reruns c.in-Drafted.batch.draft now taken c.commit_drafted.new.self c.commit_drafted.result.0 c.commit_drafted.result.1
     (ap (λ (v : SessionView). v.state.batch) (sym is) ∙ ap (open_draft s.source s.pairs) had)
     (ap state-of closed ∙ ap (λ (v : SessionView). without_batch v.state) is) (ap (λ (v : SessionView). v.kept) is) (ap (λ (v : SessionView). v.runs) is)
     c.commit_drafted.ensures
