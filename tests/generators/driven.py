@@ -65,7 +65,7 @@ class Driver:
         """Goes on until so many edits were answered, with batches opened and ended between them."""
         while self.edited < count and not self.failures:
             text = self.chooser.command()
-            if not text.startswith(b"print"):
+            if not text.startswith((b"print", b"show")):
                 self.edit(text, *commands(text)[0])
         if self.model.batch is not None:
             self.edit(b"abort\n", (b"abort",), b"", False)
