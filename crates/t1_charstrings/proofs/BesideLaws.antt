@@ -1,5 +1,5 @@
 -- How long the private text is beside its charstrings, after a change.
-use Rattle.std.proofs.Common.{◌≡◌, ◌+◌, ◌-◌, ◌^◌, ◌<◌, ◌≤◌, ℕ, zero, suc, List, [], ◌∷◌, map, length, refl, subst, Option, None, Some, arith}
+use Rattle.std.proofs.Common.{◌≡◌, ◌+◌, ◌-◌, ◌^◌, ◌<◌, ◌≤◌, ℕ, zero, suc, List, [], ◌∷◌, map, length, refl, subst, sym, Option, None, Some, arith}
 use Rattle.std.specs.Prelude.{insert, remove}
 use Rattle.std.specs.List.{slice_set}
 use Rattle.std.specs.Option.{SomeIff}
@@ -11,7 +11,7 @@ use Rattle.t1_parts.specs.SourceParts.{SourceParts}
 use Rattle.t1_source.specs.declared.editing.Change.{Change}
 use Rattle.t1_source.specs.declared.editing.Change.TheVariants as changes
 use Rattle.t1_source.specs.Changes.{IsFor, made_after, put_by, taken_by}
-use Rattle.t1_charstrings.specs.Beside.{all_beside, beside, put_beside, taken_beside, IsKeptBeside}
+use Rattle.t1_charstrings.specs.Beside.{all_beside, beside, put_beside, taken_beside, IsCountedAfter, IsKeptBeside}
 use Rattle.t1_charstrings.specs.Sums.{item_at}
 
 -- ---- one item
@@ -72,12 +72,26 @@ changed-beside (changes.PutPair at pair) s fits = refl
 changed-beside (changes.InsertPair at pair) s fits = refl
 changed-beside (changes.RemovePair at) s fits = refl
 
--- the length after it
-pub kept_beside : (change : Change) (source : SourceParts) → IsFor change source → (len result : Option ℕ) (was taken put left : ℕ)
-    → len ≡ Some was → taken ≡ taken_beside source.items (taken_by change) → put ≡ put_beside (put_by change)
-    → taken ≤ was → left ≡ was - taken → SomeIff result (left + put < 2 ^ 64) (left + put)
+-- ---- the length after it
+
+counted-of : (was taken put left t p : ℕ) (result : Option ℕ) → taken ≡ t → put ≡ p → taken ≤ was → left ≡ was - taken
+    → SomeIff result (left + put < 2 ^ 64) (left + put) → IsCountedAfter (Some was) t p result
+counted-of was taken put left t p None taken_is put_is within left_is sum = λ both. sum (omega (arith, left_is, taken_is, put_is, both.1))
+counted-of was taken put left t p (Some now) taken_is put_is within left_is sum = (
+  (omega (arith, within, taken_is), omega (arith, left_is, taken_is, put_is, sum.0)),
+  omega (arith, left_is, taken_is, put_is, sum.1),
+)
+
+-- by the steps of the sum
+pub counted_beside : (len result : Option ℕ) (was taken put left t p : ℕ) → len ≡ Some was → taken ≡ t → put ≡ p → taken ≤ was → left ≡ was - taken
+    → SomeIff result (left + put < 2 ^ 64) (left + put) → IsCountedAfter len t p result
+counted_beside len result was taken put left t p len_is taken_is put_is within left_is sum =
+    subst (λ l. IsCountedAfter l t p result) (sym len_is) (counted-of was taken put left t p result taken_is put_is within left_is sum)
+
+-- so the private text is as long as is said
+pub kept_beside : (change : Change) (source : SourceParts) → IsFor change source → (len result : Option ℕ)
+    → IsCountedAfter len (taken_beside source.items (taken_by change)) (put_beside (put_by change)) result
     → (s : SourceParts) (n : ℕ) → IsKeptBeside s n source len → IsKeptBeside s n (made_after change source) result
-kept_beside change source fits len None was taken put left len_is taken_is put_is within left_is sum s n kept = tt
-kept_beside change source fits len (Some now) was taken put left len_is taken_is put_is within left_is sum s n kept =
-    let before : was + all_beside s.items ≡ n + all_beside source.items = subst (IsKeptBeside s n source) len_is kept in
-    omega (arith, changed-beside change source fits, taken_is, put_is, within, left_is, sum.1, before)
+kept_beside change source fits len None counted s n kept = tt
+kept_beside change source fits None (Some now) counted s n kept = absurd (cc)
+kept_beside change source fits (Some was) (Some now) counted s n kept = omega (arith, changed-beside change source fits, counted.0.0, counted.1, kept)

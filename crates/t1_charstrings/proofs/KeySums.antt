@@ -1,13 +1,12 @@
 -- Sums over keys that stand once each: they go by membership alone.
-use Rattle.std.proofs.Common.{◌≡◌, ◌+◌, ◌-◌, ◌^◌, ◌≤◌, ◌<◌, min, ℕ, Bool, true, false, cond, List, [], ◌∷◌, ◌++◌, map, length, take, refl, sym, ap, subst, ◌∙◌, Some, arith}
+use Rattle.std.proofs.Common.{◌≡◌, ◌+◌, ◌-◌, ◌^◌, ◌≤◌, min, ℕ, Bool, true, false, cond, List, [], ◌∷◌, ◌++◌, map, length, take, refl, sym, ap, subst, ◌∙◌, arith}
 use Rattle.std.specs.Prelude.{◌||◌, sum_by}
-use Rattle.std.specs.List.{list_any, slice_get, AllByRecursion, IsDistinct}
+use Rattle.std.specs.List.{list_any, AllByRecursion, IsDistinct}
 use Rattle.std.specs.Map.{keys_of}
 use Rattle.std.proofs.lemmas.Bool.{or_left, or_parts, or_right}
 use Rattle.std.proofs.lemmas.List.Folds.{list_any-append}
 use Rattle.std.proofs.lemmas.List.{take_all}
-use Rattle.std.proofs.lemmas.List.Sums.{sum_by-append, sum_by-cons, sum_by_more}
-use Rattle.std.proofs.lemmas.Option.{get_or_from_slice_get, slice_get_within}
+use Rattle.std.proofs.lemmas.List.Sums.{sum_by-append, sum_by-cons}
 use Rattle.t1_run.specs.Run.{Key}
 use Rattle.t1_run.specs.RunKeys.{key_eq}
 use Rattle.t1_font.proofs.Keys.{key-itself, key-same}
@@ -148,14 +147,6 @@ each-same f g (k ∷ ks) same =
 sum-keys : {X : Type 0} (f : Key → ℕ) (key : X → Key) (xs : List X) → sum_by f (map key xs) ≡ sum_by (λ x. f (key x)) xs
 sum-keys f key [] = refl
 sum-keys f key (x ∷ xs) = omega (arith, sum-keys f key xs, sum_by-cons f (key x) (map key xs), sum_by-cons (λ x. f (key x)) x xs)
-
-pub more_lines : {X : Type 0} (f : X → ℕ) (xs : List X) (at : ℕ) (x : X) (total one next : ℕ) → slice_get xs at ≡ Some x
-    → total ≡ min (sum_by f (take at xs)) (2 ^ 64 - 1) → one ≡ min (f x) (2 ^ 64 - 1) → next ≡ min (total + one) (2 ^ 64 - 1)
-    → (next < 2 ^ 64) × (next ≡ min (sum_by f (take (at + 1) xs)) (2 ^ 64 - 1))
-more_lines f xs at x total one next here before is step =
-    let more = sum_by_more f xs at x (slice_get_within xs at x here) in
-    let own = ap f (get_or_from_slice_get xs at x x here) in
-    (omega (arith, step), omega (arith, before, is, step, more, own))
 
 pub all_lines : {X : Type 0} (f : Key → ℕ) (key : X → Key) (xs : List X) (at total : ℕ) → length xs ≤ at
     → total ≡ min (sum_by (λ x. f (key x)) (take at xs)) (2 ^ 64 - 1) → total ≡ min (sum_by f (map key xs)) (2 ^ 64 - 1)

@@ -1,5 +1,5 @@
 -- How long the private text is beside its charstrings, and what edits make of that.
-use Rattle.std.specs.Prelude.{◌≡◌, ◌+◌, ℕ, List, [], ◌++◌, map, Option, None, Some, length, sum_by}
+use Rattle.std.specs.Prelude.{◌≡◌, ◌+◌, ◌-◌, ◌^◌, ◌<◌, ◌≤◌, ℕ, List, [], ◌++◌, map, Option, None, Some, SomeIff, length, sum_by}
 use Rattle.std.specs.declared.alloc.Global.{Global}
 use Rattle.std.specs.declared.vec.Vec.{Vec}
 use Rattle.t1_code.specs.Pfb.{closing_text}
@@ -43,6 +43,12 @@ put_beside None = 0
 abbrev pub IsKeptBeside : SourceParts → ℕ → SourceParts → Option ℕ → Type 0
 IsKeptBeside s n made None = Unit {0}
 IsKeptBeside s n made (Some m) = m + all_beside s.items ≡ n + all_beside made.items
+
+-- word, edits: a length that is kept, after a change that takes out and puts in so many bytes: it is given up where it would
+-- be below 0 or past 2^64 - 1, and only there
+abbrev pub IsCountedAfter : Option ℕ → ℕ → ℕ → Option ℕ → Type 0
+IsCountedAfter None taken put result = result ≡ None
+IsCountedAfter (Some len) taken put result = SomeIff result ((taken ≤ len) × (len - taken + put < 2 ^ 64)) (len - taken + put)
 
 -- ---- the charstrings
 

@@ -1,17 +1,19 @@
 //! How long the private text is beside its charstrings, as the edits of a batch change it.
-ghost use Rattle.std.specs.Prelude.{◌≡◌, ℕ, IfSome, length};
+ghost use Rattle.std.specs.Prelude.{◌≡◌, ◌^◌, ◌<◌, ℕ, SomeIff, length};
 ghost use Rattle.t1_code.specs.Pfb.{closing_text};
 ghost use Rattle.t1_parts.specs.ItemRefs.{item_of};
 ghost use Rattle.t1_parts.specs.SourceParts.{SourceParts};
 ghost use Rattle.t1_source.specs.Changes.{IsFor, made_after, put_by, taken_by};
-ghost use Rattle.t1_charstrings.specs.Beside.{IsKeptBeside, beside, put_beside, taken_beside};
+ghost use Rattle.t1_charstrings.specs.Beside.{IsCountedAfter, IsKeptBeside, beside, put_beside};
+ghost use Rattle.t1_charstrings.specs.Beside.{taken_beside};
 
 use t1_parts::ItemRef;
 use t1_source::{Change, Source};
 
 /// How long a closing text is with the space before it; `None` past 2^64 - 1.
 fn closing_beside(closing: &[u8]) -> Option<usize>
-    ensures { IfSome result (λ len. len ≡ length (closing_text closing.now)) }
+    ensures { SomeIff result (length (closing_text closing.now) < 2 ^ 64)
+        (length (closing_text closing.now)) }
 {
     if closing.is_empty() {
         Some(0)
@@ -22,7 +24,7 @@ fn closing_beside(closing: &[u8]) -> Option<usize>
 
 /// How long the line of an item is beside its charstring; `None` past 2^64 - 1.
 fn beside_len(item: &ItemRef) -> Option<usize>
-    ensures { IfSome result (λ len. len ≡ beside (item_of item.now)) }
+    ensures { SomeIff result (beside (item_of item.now) < 2 ^ 64) (beside (item_of item.now)) }
 {
     match item {
         ItemRef::Plain(line) => line.len().checked_add(1),
@@ -36,7 +38,8 @@ fn beside_len(item: &ItemRef) -> Option<usize>
 /// none out, `None` past 2^64 - 1.
 fn taken_beside(source: &Source, change: &Change) -> Option<usize>
     requires { IsFor change.now source.now }
-    ensures { IfSome result (λ len. len ≡ taken_beside source.now.items (taken_by change.now)) }
+    ensures { SomeIff result (taken_beside source.now.items (taken_by change.now) < 2 ^ 64)
+        (taken_beside source.now.items (taken_by change.now)) }
 {
     match change.taken() {
         Some(at) => beside_len(&source.items().item(at)),
@@ -47,7 +50,8 @@ fn taken_beside(source: &Source, change: &Change) -> Option<usize>
 /// How long the line of the item that a change puts in is beside its charstring; 0 where it puts
 /// none in, `None` past 2^64 - 1.
 fn put_beside(change: &Change) -> Option<usize>
-    ensures { IfSome result (λ len. len ≡ put_beside (put_by change.now)) }
+    ensures { SomeIff result (put_beside (put_by change.now) < 2 ^ 64)
+        (put_beside (put_by change.now)) }
 {
     match change.put() {
         Some(item) => beside_len(&item.as_ref()),
@@ -57,11 +61,14 @@ fn put_beside(change: &Change) -> Option<usize>
 
 /// The length that is kept for a batch, after one more change, which is still to be made of its
 /// source: the length of the private text before the batch, with what the changes make of the lines
-/// beside the charstrings. `None` is a length that was given up, as it is past 2^64 - 1. It costs a
-/// look at the item that is taken out and at the one that is put in.
+/// beside the charstrings. It is given up, for good, where more would be taken out than it counts
+/// and where it would pass 2^64 - 1. It costs a look at the item that is taken out and at the one
+/// that is put in.
 pub fn len_beside(len: Option<usize>, source: &Source, change: &Change) -> Option<usize>
     requires { IsFor change.now source.now }
-    ensures { (s : SourceParts) (n : ℕ)
+    ensures counted { IsCountedAfter len (taken_beside source.now.items (taken_by change.now))
+        (put_beside (put_by change.now)) result }
+    ensures kept { (s : SourceParts) (n : ℕ)
         → IsKeptBeside s n source.now len
         → IsKeptBeside s n (made_after change.now source.now) result }
 {

@@ -21,10 +21,7 @@ fn subrs_len(charstrings: &Charstrings, operator: &[u8], subrs: &IndexMap<u16, E
     ensures once { AreOnce (subr_keys subrs.now.entries) }
 {
     let mut total: usize = 0;
-    for at in 0..subrs.len() {
-        let Some((number, _entry)) = subrs.get_index(at) else {
-            break;
-        };
+    for number in subrs.keys() {
         let kept = charstrings.subrs.get(number);
         total = total.saturating_add(kept_line_len(operator, kept, b""));
     }
@@ -45,10 +42,7 @@ fn glyphs_len(
     ensures once { AreOnce (glyph_keys glyphs.now.entries) }
 {
     let mut total: usize = 0;
-    for at in 0..glyphs.len() {
-        let Some((name, _entry)) = glyphs.get_index(at) else {
-            break;
-        };
+    for name in glyphs.keys() {
         let kept = charstrings.glyphs.get(name.as_slice());
         total = total.saturating_add(kept_line_len(operator, kept, b""));
     }

@@ -13,7 +13,7 @@ use Rattle.std.proofs.lemmas.Bool.{cases_Bool}
 use Rattle.t1_frac.specs.declared.fault.Code.{Code}
 use Rattle.t1_parts.specs.declared.item.Item.{Item}
 use Rattle.t1_parts.specs.declared.item.Item.TheVariants.{Plain, Section, Subr, Glyph}
-use Rattle.t1_parts.specs.Stretches.{line_says, stands_alone}
+use Rattle.t1_parts.specs.Stretches.{stands_alone}
 use Rattle.t1_code.specs.declared.command.Command.{Command}
 use Rattle.t1_code.specs.Words.{commands}
 use Rattle.t1_run.specs.Run.{Drawing, font, own}
@@ -22,6 +22,7 @@ use Rattle.t1_font.specs.Glyphs.{glyph_names}
 use Rattle.t1_font.specs.Runs.{NamedRun, drawing_in, own_among}
 use Rattle.t1_font.specs.ToRun.{commands_or_none, font_to_run, glyph_to_run}
 use Rattle.t1_run.proofs.Asked.{bytes_self}
+use Rattle.t1_font.proofs.AloneLaws.{same_alone}
 use Rattle.t1_font.proofs.Compiling.{none-there}
 use Rattle.t1_font.proofs.InTurnLaws.{names-known}
 use Rattle.t1_font.proofs.Lookups.{numbers_tell}
@@ -38,22 +39,6 @@ run_first (Glyph name words closing) items g = by (bytes_eq g name) (commands_or
   by : {X : Type 0} (b : Bool) (x : X) (r : Option X) → cond b (Some x) r ≡ option_or (cond b (Some x) None) r
   by true x r = refl
   by false x r = refl
-
--- what plain lines add nothing to is the same without those that don't stand alone
-same_alone : {X : Type 0} (f : List Item → X) → ((l : List ℕ) (items : List Item) → f (Plain l ∷ items) ≡ f items)
-    → ((item : Item) (xs ys : List Item) → f xs ≡ f ys → f (item ∷ xs) ≡ f (item ∷ ys))
-    → (items : List Item) → f (filter stands_alone items) ≡ f items
-unfolding stands_alone
-same_alone f plain more [] = refl
-same_alone f plain more (Plain l ∷ items) =
-    let left = same_alone f plain more items in
-    elim (cases_Bool (line_says l)) [
-      | inl says ↦ rw says (more (Plain l) (filter stands_alone items) items left)
-      | inr silent ↦ rw silent (left ∙ sym (plain l items))
-    ]
-same_alone f plain more (Section before count after ∷ items) = more (Section before count after) (filter stands_alone items) items (same_alone f plain more items)
-same_alone f plain more (Subr number words closing ∷ items) = more (Subr number words closing) (filter stands_alone items) items (same_alone f plain more items)
-same_alone f plain more (Glyph name words closing ∷ items) = more (Glyph name words closing) (filter stands_alone items) items (same_alone f plain more items)
 
 pub glyphs_alone : (g : List ℕ) (items : List Item) → glyph_to_run (filter stands_alone items) g ≡ glyph_to_run items g
 glyphs_alone g items = same_alone (λ is. glyph_to_run is g) (λ l is. refl)

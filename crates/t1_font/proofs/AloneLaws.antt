@@ -16,38 +16,38 @@ use Rattle.t1_font.specs.InTurn.{SubrsStandFirst}
 use Rattle.t1_font.proofs.SubrsFirst.{first-more, later}
 
 -- what plain lines add nothing to is the same without those that don't stand alone
-same-alone : {X : Type 0} (f : List Item → X) → ((l : List ℕ) (items : List Item) → f (Plain l ∷ items) ≡ f items)
+pub same_alone : {X : Type 0} (f : List Item → X) → ((l : List ℕ) (items : List Item) → f (Plain l ∷ items) ≡ f items)
     → ((item : Item) (xs ys : List Item) → f xs ≡ f ys → f (item ∷ xs) ≡ f (item ∷ ys))
     → (items : List Item) → f (filter stands_alone items) ≡ f items
 unfolding stands_alone
-same-alone f plain more [] = refl
-same-alone f plain more (Plain l ∷ items) =
-    let left = same-alone f plain more items in
+same_alone f plain more [] = refl
+same_alone f plain more (Plain l ∷ items) =
+    let left = same_alone f plain more items in
     elim (cases_Bool (line_says l)) [
       | inl says ↦ rw says (more (Plain l) (filter stands_alone items) items left)
       | inr silent ↦ rw silent (left ∙ sym (plain l items))
     ]
-same-alone f plain more (Section before count after ∷ items) = more (Section before count after) (filter stands_alone items) items (same-alone f plain more items)
-same-alone f plain more (Subr number words closing ∷ items) = more (Subr number words closing) (filter stands_alone items) items (same-alone f plain more items)
-same-alone f plain more (Glyph name words closing ∷ items) = more (Glyph name words closing) (filter stands_alone items) items (same-alone f plain more items)
+same_alone f plain more (Section before count after ∷ items) = more (Section before count after) (filter stands_alone items) items (same_alone f plain more items)
+same_alone f plain more (Subr number words closing ∷ items) = more (Subr number words closing) (filter stands_alone items) items (same_alone f plain more items)
+same_alone f plain more (Glyph name words closing ∷ items) = more (Glyph name words closing) (filter stands_alone items) items (same_alone f plain more items)
 
 pub names_alone : (items : List Item) → glyph_names (filter stands_alone items) ≡ glyph_names items
-names_alone items = same-alone glyph_names (λ l is. refl) (λ item xs ys e. ap (λ names. name_in item ++ names) e) items
+names_alone items = same_alone glyph_names (λ l is. refl) (λ item xs ys e. ap (λ names. name_in item ++ names) e) items
 
 pub checks_alone : (items : List Item) → bodies_check (filter stands_alone items) ≡ bodies_check items
-checks_alone items = same-alone bodies_check (λ l is. refl) (λ item xs ys e. ap (λ (r : Result (Unit {0}) Fault). body_check item >>= (λ _. r)) e) items
+checks_alone items = same_alone bodies_check (λ l is. refl) (λ item xs ys e. ap (λ (r : Result (Unit {0}) Fault). body_check item >>= (λ _. r)) e) items
 
 pub subrs_alone : (n : ℕ) (items : List Item) → subr_among (filter stands_alone items) n ≡ subr_among items n
-subrs_alone n items = same-alone (λ is. subr_among is n) (λ l is. refl) (λ item xs ys e. ap (λ r. option_or (subr_in item n) r) e) items
+subrs_alone n items = same_alone (λ is. subr_among is n) (λ l is. refl) (λ item xs ys e. ap (λ r. option_or (subr_in item n) r) e) items
 
 pub glyphs_alone : (g : List ℕ) (items : List Item) → glyph_among (filter stands_alone items) g ≡ glyph_among items g
-glyphs_alone g items = same-alone (λ is. glyph_among is g) (λ l is. refl) (λ item xs ys e. ap (λ r. option_or (glyph_in item g) r) e) items
+glyphs_alone g items = same_alone (λ is. glyph_among is g) (λ l is. refl) (λ item xs ys e. ap (λ r. option_or (glyph_in item g) r) e) items
 
 pub counted_alone : (items : List Item) → list_all is_counted (filter stands_alone items) ≡ list_all is_counted items
-counted_alone items = same-alone (list_all is_counted) (λ l is. refl) (λ item xs ys e. ap (λ b. is_counted item && b) e) items
+counted_alone items = same_alone (list_all is_counted) (λ l is. refl) (λ item xs ys e. ap (λ b. is_counted item && b) e) items
 
 entries-alone : (items : List Item) → list_any is_subr_entry (filter stands_alone items) ≡ list_any is_subr_entry items
-entries-alone items = same-alone (list_any is_subr_entry) (λ l is. refl) (λ item xs ys e. ap (λ b. is_subr_entry item || b) e) items
+entries-alone items = same_alone (list_any is_subr_entry) (λ l is. refl) (λ item xs ys e. ap (λ b. is_subr_entry item || b) e) items
 
 pub first_alone : (items : List Item) → SubrsStandFirst items → SubrsStandFirst (filter stands_alone items)
 first_alone [] h = h

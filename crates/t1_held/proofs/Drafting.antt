@@ -1,7 +1,7 @@
 -- The edits of a batch, one after another.
-use Rattle.std.proofs.Common.{◌≡◌, ℕ, ℤ, pos, negsuc, Bool, true, false, cond, List, [], ◌∷◌, ◌++◌, filter, map, reverse, refl, sym, ◌∙◌, ap, subst, inl, inr, Option, Some, None, Result, Ok, Err}
+use Rattle.std.proofs.Common.{◌≡◌, ℕ, pos, negsuc, Bool, true, false, cond, List, [], ◌∷◌, ◌++◌, filter, map, reverse, refl, sym, ◌∙◌, ap, subst, inl, inr, Option, Some, None, Result, Ok, Err}
 use Rattle.std.specs.Prelude.{◌||◌, ◌&&◌}
-use Rattle.std.specs.List.{list_any}
+use Rattle.std.specs.List.{list_any, AllByRecursion}
 use Rattle.std.specs.Option.{option_map, option_or, option_to_list}
 use Rattle.std.specs.Result.{result_ok}
 use Rattle.std.proofs.lemmas.Bool.{or_parts}
@@ -44,7 +44,8 @@ use Rattle.t1_rerun.proofs.Entries.{key-named}
 use Rattle.t1_held.specs.declared.batch.entries.EditedEntry.{EditedEntry}
 use Rattle.t1_held.specs.declared.batch.entries.AfterEdit.{AfterEdit}
 use Rattle.t1_held.specs.Batch.{adds, after_commands, after_edit, body_of, edited_entries, entry_edit, has_fault, is_fault, keys, Draft, EntryEdit}
-use Rattle.t1_held.specs.Drafting.{added_last_first, last_body, names_back, was_added, IsEditedBy}
+use Rattle.t1_held.specs.Drafting.{added_last_first, last_body, names_back, was_added, IsEditedBy, IsSoundBut}
+use Rattle.t1_held.proofs.Sounding.{all-sound, edit-sound}
 use Rattle.t1_held.proofs.Ordering.{begins, edit-order, edit-turn, none-in-turn, order-as, turn-as, InTurn}
 
 -- a source without edits
@@ -55,6 +56,7 @@ no-edits s well = record {
   last = none-in-turn (glyph_names s.items);
   bodies = λ k body none. absurd (cc);
   sound = λ fine none. fine;
+  others = λ fine. all-sound [] s.items fine;
   well = well;
 } where
   same : (k : Key) → (Includes [] k → ⊥) → SameAt (bodies s.items) (bodies s.items) k
@@ -244,6 +246,9 @@ edit-drafted entries s old k edit new ps e well was = record {
   sound = λ fine none.
       let parts = or_parts (has_fault entries) (has_fault (edited_entries edit)) (sym (list_any-append (λ x. is_fault x.after) entries (edited_entries edit)) ∙ none) in
       edits_checked old k edit new ps (was.sound fine parts.0) e ∙ fine-change edit parts.1;
+  others = λ fine.
+      subst (λ ks. AllByRecursion (IsSoundBut ks) new.items) (more-keys entries edit)
+      (edit-sound (keys entries) old k edit new ps e (was.others fine));
   well = well;
 }
 

@@ -1,9 +1,11 @@
 pub mod CommitLaws
 pub mod Drafting
 pub mod Encrypting
+pub mod Faulty
 pub mod HeldLaws
 pub mod HintLaws
 pub mod Members
 pub mod Noting
 pub mod Ordering
 pub mod Reporting
+pub mod Sounding

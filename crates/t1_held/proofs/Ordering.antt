@@ -13,7 +13,7 @@ use Rattle.t1_cache.specs.Edited.{names_after}
 use Rattle.t1_cache.specs.Laws.{AreDistinct}
 use Rattle.t1_font.proofs.Lookups.{bytes-turned, bytes_tell}
 use Rattle.t1_cache.proofs.Filtering.{filter-as, filter-all, filter-both, filter-none, filter-same, has-passing}
-use Rattle.t1_run.specs.Run.{Key, Glyph, Subr}
+use Rattle.t1_run.specs.Run.{Key, Glyph}
 use Rattle.t1_held.specs.Batch.{edited_entries}
 use Rattle.t1_held.specs.Drafting.{added_last_first, names_back, was_added}
 

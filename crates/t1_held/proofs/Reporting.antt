@@ -6,7 +6,6 @@ use Rattle.std.specs.Option.{option_or}
 use Rattle.std.specs.Result.{result_ok}
 use Rattle.std.specs.Str.{bytes_eq}
 use Rattle.std.proofs.Math.Bool.{and-false, or-false, or-true}
-use Rattle.std.proofs.lemmas.Bool.{or_parts}
 use Rattle.std.proofs.lemmas.List.{map-append, reverse-append}
 use Rattle.std.proofs.lemmas.List.Folds.{list_any-append}
 use Rattle.t1_frac.specs.declared.fault.Code.{Code}
@@ -21,7 +20,7 @@ use Rattle.t1_code.specs.Words.{commands}
 use Rattle.t1_parts.specs.declared.item.Item.{Item}
 use Rattle.t1_parts.specs.declared.item.Item.TheVariants as items
 use Rattle.t1_parts.specs.SourceParts.{SourceParts}
-use Rattle.t1_run.specs.Run.{Key, Subr, Glyph}
+use Rattle.t1_run.specs.Run.{Key, Glyph}
 use Rattle.t1_run.specs.RunKeys.{body_at, key_eq}
 use Rattle.t1_run.specs.Touched.{is_key_of}
 use Rattle.t1_run.proofs.Within.{each-append}
@@ -41,7 +40,8 @@ use Rattle.t1_rerun.specs.Settled.{changed_keys, last_glyph, last_glyphs, was_mo
 use Rattle.t1_held.specs.declared.batch.entries.EditedEntry.{EditedEntry}
 use Rattle.t1_held.specs.Batch.{entry_edit, has_fault, is_fault, keys, EntryEdit}
 use Rattle.t1_held.specs.Drafting.{added_last_first, last_body, names_back, was_added, AreBatchChanges, IsEditedBy}
-use Rattle.t1_held.specs.Noting.{added_keys, after_taken, all_bodies, all_taken, changes_by, nothing_kept, other_keys, Kept}
+use Rattle.t1_held.specs.Noting.{added_keys, after_taken, all_bodies, all_taken, kept_bodies_check, nothing_kept, other_keys, Kept}
+use Rattle.t1_held.proofs.Faulty.{first-kept}
 use Rattle.t1_held.proofs.Members.{same_edited}
 use Rattle.t1_held.proofs.Noting.{added-any, added-back, added-or-other, all-reverse, bodies-last, change-reverse, changes-distinct, distinct-both, each-taken, has-reverse, has_body, has_change, has_key, last-append, last-named, left-at, moved-any, moved-reverse, named-back, names-last, none-last, taken-any, taken-distinct, IsTaken}
 use Rattle.t1_held.proofs.Ordering.{order-as}
@@ -84,6 +84,38 @@ pub faults-noted : (es : List EditedEntry) → has_fault (map entry_edit es) ≡
 faults-noted [] = refl
 faults-noted (e ∷ es) = ap (λ b. is_fault e.after || b) (faults-noted es)
 
+-- ---- what is kept of the entries
+
+-- the last body of each
+last-kept : (es : List EditedEntry) (k : Key) → all_bodies es nothing_kept k ≡ last_body (map entry_edit es) k
+last-kept es k = bodies-last es nothing_kept k ∙ or-nothing (last_body (map entry_edit es) k) where
+  or-nothing : (r : Option (Option (List Command))) → option_or r None ≡ r
+  or-nothing None = refl
+  or-nothing (Some x) = refl
+
+named-kept : (es : List EditedEntry) (k : Key) → is_some (all_bodies es nothing_kept k) ≡ list_any (key_eq k) (keys (map entry_edit es))
+named-kept es k = ap is_some (last-kept es k) ∙ last-named (map entry_edit es) k
+
+-- the first fault of these is that of all bodies
+pub first-of-edits : (es : List EditedEntry) (old new : SourceParts) → IsEditedBy (map entry_edit es) old new → bodies_check old.items ≡ Ok tt
+    → (m : Kept) → ((k : Key) → m k ≡ all_bodies es nothing_kept k) → kept_bodies_check m new.items ≡ bodies_check new.items
+first-of-edits es old new edited fine m kept =
+    first-kept m (keys (map entry_edit es)) (λ k. ap is_some (kept k) ∙ named-kept es k) new.items (edited.others fine)
+
+-- what became of the entries that edits name: those that one added stand last, each where it was added last
+abbrev changes_by : List EditedEntry → List EntryChange
+changes_by es =
+    reverse (all_taken (all_bodies es nothing_kept) true (reverse (added_keys es))
+    ++ all_taken (after_taken (reverse (added_keys es)) (all_bodies es nothing_kept)) false (other_keys es))
+
+-- by what was noted
+pub changes-noted : (es : List EditedEntry) (m : Kept) (added others : List OwnedKey) (changes : List EntryChange) → ((k : Key) → m k ≡ all_bodies es nothing_kept k)
+    → added ≡ added_keys es → others ≡ other_keys es
+    → changes ≡ reverse (all_taken m true (reverse added) ++ all_taken (after_taken (reverse added) m) false others) → changes ≡ changes_by es
+changes-noted es m added others changes kept added-are others-are changes-are =
+    changes-are
+    ∙ (λ j. reverse (all_taken (λ k. kept k j) true (reverse (added-are j)) ++ all_taken (after_taken (reverse (added-are j)) (λ k. kept k j)) false (others-are j)))
+
 module _ (es : List EditedEntry) (old new : SourceParts) (e : IsEditedBy (map entry_edit es) old new) (fine : bodies_check new.items ≡ Ok tt) where
   abbrev entries : List EntryEdit
   entries = map entry_edit es
@@ -104,13 +136,10 @@ module _ (es : List EditedEntry) (old new : SourceParts) (e : IsEditedBy (map en
   others = all_taken left false (other_keys es)
 
   kept-is : (k : Key) → kept k ≡ last_body entries k
-  kept-is k = bodies-last es nothing_kept k ∙ or-nothing (last_body entries k) where
-    or-nothing : (r : Option (Option (List Command))) → option_or r None ≡ r
-    or-nothing None = refl
-    or-nothing (Some x) = refl
+  kept-is k = last-kept es k
 
   kept-named : (k : Key) → is_some (kept k) ≡ list_any (key_eq k) (keys entries)
-  kept-named k = ap is_some (kept-is k) ∙ last-named entries k
+  kept-named k = named-kept es k
 
   among-added : (k : Key) → has_key k added ≡ list_any (key_eq k) (added_last_first entries)
   among-added k = ap (list_any (key_eq k)) (added-back es)

@@ -1,13 +1,18 @@
 -- What became of the entries that the edits of a batch name, by these edits alone.
-use Rattle.std.specs.Prelude.{ℕ, Bool, true, false, nat_eq, if◌then◌else◌, List, [], ◌∷◌, ◌++◌, reverse, Option, Some, None}
+use Rattle.std.specs.Prelude.{ℕ, Bool, false, nat_eq, if◌then◌else◌, List, [], ◌∷◌, ◌++◌, Option, Some, None, is_some, Result, Ok}
 use Rattle.std.specs.Map.{lookup}
 use Rattle.std.specs.Option.{option_to_list}
 use Rattle.std.specs.Str.{bytes_eq}
 use Rattle.std.specs.declared.alloc.Global.{Global}
 use Rattle.std.specs.declared.vec.Vec.{Vec}
+use Rattle.t1_frac.specs.declared.fault.Fault.{Fault}
+use Rattle.t1_frac.specs.Outcome.{◌>>=◌}
 use Rattle.t1_code.specs.declared.command.Command.{Command}
+use Rattle.t1_parts.specs.declared.item.Item.{Item}
+use Rattle.t1_parts.specs.declared.item.Item.TheVariants as items
 use Rattle.t1_run.specs.Run.{Key, Subr, Glyph}
 use Rattle.t1_run.specs.RunKeys.{key_eq}
+use Rattle.t1_font.specs.Bodies.{body_check}
 use Rattle.t1_font.specs.declared.owned_key.OwnedKey.{OwnedKey}
 use Rattle.t1_font.specs.OwnedKeys.{key_of}
 use Rattle.t1_rerun.specs.declared.entry_change.EntryChange.{EntryChange}
@@ -52,6 +57,23 @@ all_bodies (e ∷ es) m = all_bodies es (with_body (key_of e.named) (body_of e.a
 abbrev pub without_key : Key → Kept → Kept
 without_key key m k = if key_eq key k then None else m k
 
+-- ---- the first fault of the entries
+
+-- word: whether an item is an entry that is kept
+abbrev pub is_kept : Kept → Item → Bool
+is_kept m (items.Subr n words closing) = is_some (m (Subr n))
+is_kept m (items.Glyph g words closing) = is_some (m (Glyph g))
+is_kept m _ = false
+
+-- word: the fault of an item's body, where the item is an entry that is kept
+abbrev pub kept_check : Kept → Item → Result (Unit {0}) Fault
+kept_check m item = if is_kept m item then body_check item else Ok tt
+
+-- word, batches: the first fault of the bodies of entries that are kept
+abbrev pub kept_bodies_check : Kept → List Item → Result (Unit {0}) Fault
+kept_bodies_check m [] = Ok tt
+kept_bodies_check m (item ∷ items) = kept_check m item >>= λ _. kept_bodies_check m items
+
 -- ---- the entries, by the edits that name them
 
 -- word: the entries of the edits that add one
@@ -80,9 +102,3 @@ all_taken m moved (d ∷ ds) = option_to_list (taken_at (m (key_of d)) d moved) 
 abbrev pub after_taken : List OwnedKey → Kept → Kept
 after_taken [] m = m
 after_taken (d ∷ ds) m = after_taken ds (without_key (key_of d) m)
-
--- word, batches: what became of the entries that edits name: those that one added stand last, each where it was added last
-abbrev pub changes_by : List EditedEntry → List EntryChange
-changes_by es =
-    reverse (all_taken (all_bodies es nothing_kept) true (reverse (added_keys es))
-    ++ all_taken (after_taken (reverse (added_keys es)) (all_bodies es nothing_kept)) false (other_keys es))

@@ -2,27 +2,28 @@
 ghost use Rattle.std.specs.Prelude.{◌≡◌, ◌++◌, ◌∷◌, [], false, true, Ok, IfOk, MatchResult, OnOk};
 ghost use Rattle.std.specs.Prelude.{if◌then◌else◌, map, reverse};
 ghost use Rattle.std.specs.List.{list_any};
-ghost use Rattle.t1_frac.specs.Outcome.{Refuses};
+ghost use Rattle.t1_frac.specs.Outcome.{Gives, Refuses};
 ghost use Rattle.t1_parts.specs.SourceParts.{SourceParts};
 ghost use Rattle.t1_source.specs.WellFormed.{IsWellFormed};
 ghost use Rattle.t1_run.specs.Run.{Key};
 ghost use Rattle.t1_font.specs.Assembly.{file_check};
-ghost use Rattle.t1_font.specs.Bodies.{bodies_check};
+ghost use Rattle.t1_font.specs.Bodies.{bodies_check, body_check};
 ghost use Rattle.t1_font.specs.OwnedKeys.{key_of};
 ghost use Rattle.t1_held.specs.Batch.{body_of, entry_edit, is_fault, keys};
 ghost use Rattle.t1_held.specs.Drafting.{AreBatchChanges, IsEditedBy};
-ghost use Rattle.t1_held.specs.Noting.{added_keys, after_taken, all_bodies, all_taken, changes_by};
-ghost use Rattle.t1_held.specs.Noting.{kept_at, nothing_kept, other_keys, taken_at, with_body};
-ghost use Rattle.t1_held.specs.Noting.{without_key};
+ghost use Rattle.t1_held.specs.Noting.{added_keys, after_taken, all_bodies, all_taken, kept_at};
+ghost use Rattle.t1_held.specs.Noting.{kept_bodies_check, kept_check, nothing_kept, other_keys};
+ghost use Rattle.t1_held.specs.Noting.{taken_at, with_body, without_key};
 
 use crate::batch::entries::{AfterEdit, EditedEntry};
 use crate::batch::last_bodies::LastBodies;
 use std::alloc::{AllocError, Global};
-use t1_code::Body;
-use t1_font::{OwnedKey, compiled};
+use t1_code::{Body, compiled_glyph, compiled_subr};
+use t1_font::OwnedKey;
 use t1_frac::Refusal;
+use t1_parts::Items;
 use t1_rerun::EntryChange;
-use t1_source::Source;
+use t1_source::{Item, Source};
 
 /// The entries that edits name: the body of each after the last edit that names it, and the
 /// entries of the edits that add one and of the others, in the order of the edits.
@@ -149,16 +150,6 @@ fn changes_of(alloc: Global, noted: Noted) -> Result<Vec<EntryChange>, AllocErro
     Ok(changes)
 }
 
-/// What became of the entries, each once.
-fn changes_by_entries(
-    alloc: Global,
-    entries: Vec<EditedEntry>,
-) -> Result<Vec<EntryChange>, AllocError>
-    ensures { IfOk result (λ changes. changes.items ≡ changes_by entries.items) }
-{
-    changes_of(alloc, noted_entries(alloc, entries)?)
-}
-
 /// Whether the words of an entry have a fault.
 fn is_fault(after: &AfterEdit) -> bool
     ensures { result ≡ is_fault after.now }
@@ -173,10 +164,44 @@ fn have_fault(entries: &[EditedEntry]) -> bool
     entries.iter().any(|entry| is_fault(&entry.after))
 }
 
+/// The fault of an item's body, at its entry, where the item is an entry whose words have one.
+#[tactic(auto, unfolding(t1_font::specs::Bodies::words_check))]
+fn check_body(alloc: Global, item: &Item) -> Result<(), Refusal>
+    ensures { Gives (λ x. x) result (body_check item.now) }
+{
+    match item {
+        Item::Subr(number, words, _) => drop(compiled_subr(alloc, *number, words)?),
+        Item::Glyph(name, words, _) => drop(compiled_glyph(alloc, name.as_slice(), words)?),
+        _ => {}
+    }
+    Ok(())
+}
+
+/// The fault of an item's body, where the item is one of the entries that edits name.
+fn check_kept(alloc: Global, bodies: &LastBodies, item: &Item) -> Result<(), Refusal>
+    ensures { Gives (λ x. x) result (kept_check (kept_at bodies.now) item.now) }
+{
+    if bodies.has(item) {
+        check_body(alloc, item)?;
+    }
+    Ok(())
+}
+
+/// The first fault of the bodies of entries that edits name, in the order of the items.
+#[tactic(auto, using(crate::proofs::Faulty::kept_alone))]
+fn check_entries(alloc: Global, items: &Items, bodies: &LastBodies) -> Result<(), Refusal>
+    ensures { Gives (λ x. x) result (kept_bodies_check (kept_at bodies.now) items.now) }
+{
+    for item in items.iter().alone() {
+        check_kept(alloc, bodies, item)?;
+    }
+    Ok(())
+}
+
 /// What became of the entries that the edits of a batch name, each once: its body in the batch's
 /// source, `None` where it was removed, and whether an edit added it. Or the source's first fault.
-/// It costs by the edits; only where the words of one have a fault are all bodies compiled, to find
-/// the first.
+/// It costs by the edits; only where the words of one have a fault are the items gone over for the
+/// first one.
 pub fn batch_changes(
     alloc: Global,
     source: &Source,
@@ -191,8 +216,10 @@ pub fn batch_changes(
         AreBatchChanges old source.now (keys (map entry_edit entries.items)) changes.items)
         (λ refusal. Refuses refusal (file_check source.now)) }
 {
-    if have_fault(&entries) {
-        drop(compiled(alloc, source.items())?);
+    let faulty = have_fault(&entries);
+    let noted = noted_entries(alloc, entries)?;
+    if faulty {
+        check_entries(alloc, source.items(), &noted.bodies)?;
     }
-    Ok(changes_by_entries(alloc, entries)?)
+    Ok(changes_of(alloc, noted)?)
 }

@@ -3,13 +3,14 @@ ghost use Rattle.std.specs.Prelude.{◌≡◌, ℕ, List, None, Some, OnOk, nat_
 ghost use Rattle.std.specs.Str.{bytes_eq};
 ghost use Rattle.t1_run.specs.Run.{Key};
 ghost use Rattle.t1_font.specs.OwnedKeys.{key_of};
-ghost use Rattle.t1_held.specs.Noting.{glyph_body, kept_at, nothing_kept, subr_body, with_body};
-ghost use Rattle.t1_held.specs.Noting.{without_key};
+ghost use Rattle.t1_held.specs.Noting.{glyph_body, is_kept, kept_at, nothing_kept, subr_body};
+ghost use Rattle.t1_held.specs.Noting.{with_body, without_key};
 
 use indexmap::IndexMap;
 use std::alloc::{AllocError, Global};
 use t1_code::Body;
 use t1_font::OwnedKey;
+use t1_source::Item;
 
 /// The Subrs and the glyphs that edits name, each with the body that it has after the last of them;
 /// `None` where that one removed it, or its words have a fault.
@@ -95,6 +96,17 @@ impl LastBodies {
         match named {
             OwnedKey::Subr(number) => put_subr(&mut self.subrs, *number, body),
             OwnedKey::Glyph(name) => put_glyph(alloc, &mut self.glyphs, name.as_slice(), body),
+        }
+    }
+
+    /// Whether an item is one of the entries.
+    pub fn has(&self, item: &Item) -> bool
+        ensures { result ≡ is_kept (kept_at self.now) item.now }
+    {
+        match item {
+            Item::Subr(number, _, _) => self.subrs.contains_key(number),
+            Item::Glyph(name, _, _) => self.glyphs.contains_key(name.as_slice()),
+            _ => false,
         }
     }
 

@@ -49,13 +49,14 @@ impl<'a> Model for Batch<'a> {
         } };
 }
 
-ghost use Rattle.std.specs.Prelude.{◌≡◌, ◌<◌, ◌++◌, [], vec_capacity, vec_len, IfOk, OnOk, map};
+ghost use Rattle.std.specs.Prelude.{◌≡◌, ◌<◌, ◌++◌, [], Some, IfOk, OnOk, map};
+ghost use Rattle.std.specs.Prelude.{vec_capacity, vec_len};
 ghost use Rattle.std.specs.Option.{option_map, option_to_list};
 ghost use Rattle.t1_parts.specs.SourceParts.{SourceParts};
 ghost use Rattle.t1_source.specs.WellFormed.{IsWellFormed};
 ghost use Rattle.t1_rerun.specs.Renewing.{entry_key};
-ghost use Rattle.t1_held.specs.Batch.{adds, after_edit, entry_edit};
-ghost use Rattle.t1_held.specs.Drafting.{Drafts, IsDraftOf};
+ghost use Rattle.t1_held.specs.Batch.{adds, after_edit, count_begin, entry_edit};
+ghost use Rattle.t1_held.specs.Drafting.{Drafts, IsCountedBy, IsDraftOf};
 
 use crate::batch::entries::edited_entry;
 use std::alloc::{AllocError, Global};
@@ -102,6 +103,7 @@ impl<'a> Batch<'a> {
         ensures made { IfOk result
             (λ batch.
             batch.draft ≡ record { source = source.now; pairs = pairs.now; entries = [] }) }
+        ensures beside { IfOk result (λ batch. batch.beside ≡ Some count_begin) }
         ensures draft { IsWellFormed source.now → IfOk result (IsDraftOf source.now) }
     {
         Ok(Batch {
@@ -119,6 +121,7 @@ impl<'a> Batch<'a> {
     /// out is looked for first among the few items before a place.
     pub fn edit(&mut self, alloc: Global, edit: &Edit, near: usize) -> Result<(), Cause>
         ensures edited { Drafts self.old.draft edit.now result self.new.draft }
+        ensures counted { OnOk result (IsCountedBy self.old self.new) }
         ensures draft { (s : SourceParts) → IsDraftOf s self.old → IsDraftOf s self.new }
     {
         let change = self

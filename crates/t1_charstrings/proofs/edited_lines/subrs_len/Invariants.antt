@@ -1,12 +1,15 @@
-use Rattle.std.proofs.Common.{◌≡◌, ◌<◌, ◌^◌, ◌-◌, min, take}
+use Rattle.std.proofs.Common.{◌≡◌, ◌+◌, ◌<◌, ◌^◌, ◌-◌, min}
 use Rattle.std.specs.Prelude.{sum_by}
+use Rattle.std.specs.Map.{keys_of}
 use Rattle.t1_run.specs.Run.{Subr}
 use Rattle.t1_charstrings.specs.Beside.{bare_length}
 use Rattle.t1_charstrings.specs.Kept.{charstring_at}
 use Rattle.t1_charstrings.proofs.edited_lines.subrs_len.Given as goal
 
--- the lines of those so far
-abbrev pub invariant-loop-at : goal.invariant-loop-at
-invariant-loop-at l =
-    (l.total < 2 ^ 64)
-    × (l.total ≡ min (sum_by (λ e. bare_length (charstring_at l.charstrings) l.operator (Subr e.0)) (take l.at l.subrs.entries)) (2 ^ 64 - 1))
+-- the lines so far with those that are left
+abbrev pub invariant-loop-number : goal.invariant-loop-number
+invariant-loop-number l =
+    (goal.iterator-loop-number).can_next l.number-iterator × (goal.iterator-loop-number).is_finite l.number-iterator
+    × (l.total < 2 ^ 64)
+    × (min (l.total + sum_by (λ n. bare_length (charstring_at l.charstrings) l.operator (Subr n)) l.number-iterator) (2 ^ 64 - 1)
+    ≡ min (sum_by (λ n. bare_length (charstring_at l.charstrings) l.operator (Subr n)) (keys_of l.subrs.entries)) (2 ^ 64 - 1))
