@@ -1,11 +1,13 @@
 -- Stretches with the numbers of their first lines.
-use Rattle.std.proofs.Common.{◌≡◌, ℕ, zero, suc, ◌+◌, ◌<◌, Bool, true, false, ◌||◌, Some, None, List, [], ◌∷◌, ◌++◌, length, drop, map, refl, sym, ◌∙◌, ap, arith}
+use Rattle.std.proofs.Common.{◌≡◌, ℕ, zero, suc, ◌+◌, ◌<◌, ◌≤◌, Bool, true, false, ◌||◌, Some, None, List, [], ◌∷◌, ◌++◌, length, take, drop, map, refl, sym, ◌∙◌, ap, arith}
 use Rattle.std.specs.Borrow.{Bor}
 use Rattle.std.specs.List.{find, slice_index_or}
 use Rattle.std.proofs.lemmas.List.{append_assoc, append-nil, length-append}
 use Rattle.std.proofs.lemmas.List.Folds.{list_any-append}
 use Rattle.std.proofs.lemmas.Bool.{or_parts}
 use Rattle.std.proofs.Math.Bool.{or-false}
+use Rattle.std.specs.declared.alloc.Global.{Global}
+use Rattle.std.specs.declared.vec.Vec.{Vec}
 use Rattle.t1_parts.specs.declared.item.Item.{Item}
 use Rattle.t1_parts.specs.declared.item.Item.TheVariants.{Plain}
 use Rattle.t1_parts.specs.declared.stretch.Stretch.{Stretch}
@@ -13,7 +15,7 @@ use Rattle.t1_parts.specs.declared.stretch.Stretch.TheVariants.{One, Lines}
 use Rattle.t1_parts.specs.Entries.{NumberedItem, has_numbered, is_subr, is_glyph}
 use Rattle.t1_parts.specs.Gathered.{HasNumbers, AreGlyphsNames}
 use Rattle.t1_parts.specs.Items.{items_in, line_items, stretch_items}
-use Rattle.t1_parts.specs.Stretches.{line_says, lines_say}
+use Rattle.t1_parts.specs.Stretches.{line_says, lines_say, stretches_in}
 use Rattle.t1_parts.specs.LenIV.{says_lead}
 use Rattle.t1_parts.specs.NumberedStretches.{numbered_lines, numbered_items, numbered_in}
 use Rattle.t1_parts.specs.Reading.{unnumbered}
@@ -120,3 +122,56 @@ said_later i ns ss s same h is none =
     let n = slice_index_or ns i 0 in
     let more = numbered_in (drop (i + 1) ns) (drop (i + 1) ss) in
     ap (find (λ i. says_lead i.1)) (from_numbered i ns ss 0 s same h ∙ ap (λ t. numbered_items n t ++ more) (sym is)) ∙ none_numbered n s more none
+
+-- ---- in lists one after another
+
+-- of some stretches and others, the numbers stand in front and behind
+numbered_cut : (ns : List ℕ) (ss ts : List Stretch) → length ss ≤ length ns → numbered_in ns (ss ++ ts) ≡ numbered_in (take (length ss) ns) ss ++ numbered_in (drop (length ss) ns) ts
+numbered_cut ns [] ts h = refl
+numbered_cut [] (s ∷ ss) ts h = absurd (omega (arith, h))
+numbered_cut (n ∷ ns) (s ∷ ss) ts h =
+    ap (λ t. numbered_items n s ++ t) (numbered_cut ns ss ts (omega (arith, h)))
+    ∙ sym (append_assoc (numbered_items n s) (numbered_in (take (length ss) ns) ss) (numbered_in (drop (length ss) ns) ts))
+
+found_before : (xs ys : List NumberedItem) (found : NumberedItem) → find (λ i. says_lead i.1) xs ≡ Some found → find (λ i. says_lead i.1) (xs ++ ys) ≡ Some found
+found_before [] ys found is = absurd (cc)
+found_before (x ∷ xs) ys found is = by (says_lead x.1) refl is (found_before xs ys found) where
+  by : (b : Bool) → says_lead x.1 ≡ b → find (λ i. says_lead i.1) (x ∷ xs) ≡ Some found
+      → (find (λ i. says_lead i.1) xs ≡ Some found → find (λ i. says_lead i.1) (xs ++ ys) ≡ Some found)
+      → find (λ i. says_lead i.1) (x ∷ xs ++ ys) ≡ Some found
+  by true says h rest = let here : Some x ≡ Some found = rw says at h in rw says here
+  by false silent h rest = rw silent (rest (rw silent at h))
+
+found_behind : (xs ys : List NumberedItem) → find (λ i. says_lead i.1) xs ≡ None → find (λ i. says_lead i.1) (xs ++ ys) ≡ find (λ i. says_lead i.1) ys
+found_behind [] ys is = refl
+found_behind (x ∷ xs) ys is = by (says_lead x.1) refl is (found_behind xs ys) where
+  by : (b : Bool) → says_lead x.1 ≡ b → find (λ i. says_lead i.1) (x ∷ xs) ≡ None
+      → (find (λ i. says_lead i.1) xs ≡ None → find (λ i. says_lead i.1) (xs ++ ys) ≡ find (λ i. says_lead i.1) ys)
+      → find (λ i. says_lead i.1) (x ∷ xs ++ ys) ≡ find (λ i. says_lead i.1) ys
+  by true says h rest = let there : Some x ≡ None = rw says at h in absurd (cc)
+  by false silent h rest = rw silent (rest (rw silent at h))
+
+-- what is found in the first list is found first
+pub said_in_list : (ns : List ℕ) (ss ts : List Stretch) (found : NumberedItem) → length ss ≤ length ns → find (λ i. says_lead i.1) (numbered_in (take (length ss) ns) ss) ≡ Some found
+    → find (λ i. says_lead i.1) (numbered_in ns (ss ++ ts)) ≡ Some found
+said_in_list ns ss ts found h is =
+    ap (find (λ i. says_lead i.1)) (numbered_cut ns ss ts h)
+    ∙ found_before (numbered_in (take (length ss) ns) ss) (numbered_in (drop (length ss) ns) ts) found is
+
+-- where it says nothing, the others are looked at
+pub said_in_others : (ns : List ℕ) (ss ts : List Stretch) → length ss ≤ length ns → find (λ i. says_lead i.1) (numbered_in (take (length ss) ns) ss) ≡ None
+    → find (λ i. says_lead i.1) (numbered_in ns (ss ++ ts)) ≡ find (λ i. says_lead i.1) (numbered_in (drop (length ss) ns) ts)
+said_in_others ns ss ts h is =
+    ap (find (λ i. says_lead i.1)) (numbered_cut ns ss ts h)
+    ∙ found_behind (numbered_in (take (length ss) ns) ss) (numbered_in (drop (length ss) ns) ts) is
+
+-- the list of a place, in front of the later ones
+pub lists_from : (i : ℕ) (lists : List (Vec Stretch Global)) (list : Vec Stretch Global) (last : List Stretch) → i < length lists → list ≡ slice_index_or lists i list
+    → stretches_in (drop i lists) ++ last ≡ list.items ++ (stretches_in (drop (i + 1) lists) ++ last)
+lists_from i [] list last h is = absurd (omega (arith, h))
+lists_from zero (v ∷ lists) list last h is =
+    ap (λ (w : Vec Stretch Global). (w.items ++ stretches_in lists) ++ last) (sym is) ∙ append_assoc list.items (stretches_in lists) last
+lists_from (suc i) (v ∷ lists) list last h is =
+    let next : suc i + 1 ≡ suc (i + 1) = omega arith in
+    lists_from i lists list last (omega (arith, h)) is
+    ∙ ap (λ k. list.items ++ (stretches_in (drop k (v ∷ lists)) ++ last)) (sym next)

@@ -1,7 +1,9 @@
 -- Stretches of items, as the code looks into them.
-use Rattle.std.specs.Prelude.{◌≡◌, ◌≤◌, ◌<◌, ◌+◌, ◌-◌, ℕ, Bool, true, Option, Some, None, List, [], ◌∷◌, ◌++◌, length, take, drop, filter}
+use Rattle.std.specs.Prelude.{◌≡◌, ◌≤◌, ◌<◌, ◌+◌, ◌-◌, ℕ, Bool, true, Option, Some, None, List, [], ◌∷◌, ◌++◌, length, take, drop, filter, flat_map}
 use Rattle.std.specs.Borrow.{Bor}
 use Rattle.std.specs.List.{list_any, slice_index_or}
+use Rattle.std.specs.declared.alloc.Global.{Global}
+use Rattle.std.specs.declared.vec.Vec.{Vec}
 use Rattle.t1_text.specs.Lines.{lines}
 use Rattle.t1_parts.specs.declared.item.Item.{Item}
 use Rattle.t1_parts.specs.declared.item.Item.TheVariants.{Plain, Section, Subr, Glyph}
@@ -10,6 +12,10 @@ use Rattle.t1_parts.specs.declared.stretch.Stretch.TheVariants.{One, Lines}
 use Rattle.t1_parts.specs.Counts.{raised_item}
 use Rattle.t1_parts.specs.LenIV.{says_lead}
 use Rattle.t1_parts.specs.Items.{stretch_items, items_in}
+
+-- word: the stretches of some lists, one list after another
+abbrev pub stretches_in : List (Vec Stretch Global) → List Stretch
+stretches_in lists = flat_map (λ list. list.items) lists
 
 -- word: the one item that stands there, or none
 abbrev pub one_item : Option (Bor Item) → List Item

@@ -12,6 +12,7 @@ ghost use Rattle.t1_parts.specs.EntryKeys.{is_entry_of, is_of_kind};
 ghost use Rattle.t1_parts.specs.EntryKeys.{AreSectionsBefore, IsEntryAt, IsThrough};
 ghost use Rattle.t1_parts.specs.Items.{items_in};
 ghost use Rattle.t1_parts.specs.ItemRefs.{item_of};
+ghost use Rattle.t1_parts.specs.Stretches.{stretches_in};
 
 use crate::block::Block;
 use crate::entry_key::{EntryKey, ItemKind};
@@ -21,12 +22,11 @@ use crate::items_iter::{ItemsIter, item_before, items_among, items_from, items_t
 use crate::stretch::Stretch;
 use std::alloc::{AllocError, Global};
 use std::marker::Model;
-use std::mem;
 use std::rc::Rc;
 
 /// How many stretches stand in a block before it is cut in two. A block is copied where it is
 /// changed while another copy of the items has it.
-const FULL: usize = 128;
+pub(crate) const FULL: usize = 128;
 
 /// Items in their order. One is found, put in or taken out by a look at the lengths of the blocks
 /// and by what its own block has. A copy shares the blocks until one of them is changed. Contracts
@@ -409,22 +409,17 @@ impl<'a> Blocks<'a> {
         }
     }
 
-    /// The items of some stretches.
-    pub(crate) fn of_stretches(stretches: Vec<Stretch<'a>>) -> Result<Blocks<'a>, AllocError>
-        ensures { IfOk result (λ blocks. blocks ≡ items_in stretches.entry.items) }
+    /// The items of some stretches, of which each list becomes a block. None of them is moved.
+    pub(crate) fn of_lists(lists: Vec<Vec<Stretch<'a>>>) -> Result<Blocks<'a>, AllocError>
+        ensures { IfOk result
+            (λ blocks. blocks ≡ items_in (stretches_in lists.entry.items)) }
     {
-        let alloc = *stretches.allocator();
-        let mut blocks = Vec::with_capacity(alloc, stretches.len() / FULL + 1)?;
-        let mut filling = Vec::with_capacity(alloc, FULL)?;
-        for stretch in stretches {
-            filling.push(stretch)?;
-            if FULL <= filling.len() {
-                let full = mem::replace(&mut filling, Vec::with_capacity(alloc, FULL)?);
-                push_block(alloc, &mut blocks, full)?;
+        let alloc = *lists.allocator();
+        let mut blocks = Vec::with_capacity(alloc, lists.len())?;
+        for stretches in lists {
+            if !stretches.is_empty() {
+                push_block(alloc, &mut blocks, stretches)?;
             }
-        }
-        if !filling.is_empty() {
-            push_block(alloc, &mut blocks, filling)?;
         }
         Ok(Blocks { alloc, blocks })
     }

@@ -15,6 +15,7 @@ ghost use Rattle.t1_parts.specs.NumberedStretches.{numbered_in, numbered_lines};
 ghost use Rattle.t1_parts.specs.Private.{items_of, private_items};
 ghost use Rattle.t1_parts.specs.Reading.{unnumbered, whole_check};
 
+use crate::gathered_stretches::GatheredStretches;
 use crate::item::Item;
 use crate::items::Items;
 use crate::len_iv::lead_on;
@@ -33,7 +34,7 @@ use t1_text::fault_on;
 /// together, and the item of a place is found at once.
 const FEWEST_TOGETHER: usize = 64;
 
-/// How many bytes an item is taken to have, where room is made for those to come.
+/// How many bytes an item is taken to have, where room is made for the numbers of those to come.
 const BYTES_OF_AN_ITEM: usize = 256;
 
 /// The items read so far, each with the number of its first line, and what later lines ask of them;
@@ -41,7 +42,7 @@ const BYTES_OF_AN_ITEM: usize = 256;
 #[derive(Drop)]
 pub struct Gathered<'a> {
     numbers: Vec<u64>,
-    stretches: Vec<Stretch<'a>>,
+    stretches: GatheredStretches<'a>,
     has_subrs_line: bool,
     has_glyphs_line: bool,
     subrs: BTreeSet<u16>,
@@ -57,34 +58,16 @@ impl<'a> Model for Gathered<'a> {
 
     ghost Value = { List NumberedItem };
 
-    ghost view = { λ g. numbered_in g.numbers.items g.stretches.items };
+    ghost view = { λ g. numbered_in g.numbers.items g.stretches };
 
     ghost invariant = { λ g.
         (g.has_subrs_line
-        ≡ has_numbered is_subrs_line (numbered_in g.numbers.items g.stretches.items))
+        ≡ has_numbered is_subrs_line (numbered_in g.numbers.items g.stretches))
         × (g.has_glyphs_line
-        ≡ has_numbered is_glyphs_line (numbered_in g.numbers.items g.stretches.items))
-        × HasNumbers g.subrs.keys (numbered_in g.numbers.items g.stretches.items)
-        × AreGlyphsNames g.glyphs.keys (numbered_in g.numbers.items g.stretches.items)
-        × (length g.numbers.items ≡ length g.stretches.items) };
-}
-
-/// The first item of some stretches that says lenIV, with its number.
-fn first_saying<'s, 'a>(
-    numbers: &[u64],
-    stretches: &'s [Stretch<'a>],
-) -> Option<(u64, &'s Item<'a>)>
-    requires { length numbers.now ≡ length stretches.now }
-    ensures { option_map (λ i. (i.0, i.1.now)) result
-        ≡ find (λ i. says_lead i.1) (numbered_in numbers.now stretches.now) }
-{
-    for at in 0..stretches.len() {
-        let stretch = &stretches[at];
-        if let Some(item) = stretch.saying() {
-            return Some((numbers[at], item));
-        }
-    }
-    None
+        ≡ has_numbered is_glyphs_line (numbered_in g.numbers.items g.stretches))
+        × HasNumbers g.subrs.keys (numbered_in g.numbers.items g.stretches)
+        × AreGlyphsNames g.glyphs.keys (numbered_in g.numbers.items g.stretches)
+        × (length g.numbers.items ≡ length g.stretches) };
 }
 
 /// Keeps the number of a further item, where it is a Subr.
@@ -111,13 +94,13 @@ fn keep_name<'a>(glyphs: &mut IndexSet<&'a [u8]>, name: Option<&'a [u8]>) -> Res
 /// Adds a stretch, with the number of its first line.
 fn push_numbered<'a>(
     numbers: &mut Vec<u64>,
-    stretches: &mut Vec<Stretch<'a>>,
+    stretches: &mut GatheredStretches<'a>,
     number: u64,
     stretch: Stretch<'a>,
 ) -> Result<(), AllocError>
     ensures number { OnOk result (numbers.new.items ≡ numbers.old.items ++ number ∷ []) }
     ensures stretch { OnOk result
-        (stretches.new.items ≡ stretches.old.items ++ stretch.entry ∷ []) }
+        (stretches.new ≡ stretches.old ++ stretch.entry ∷ []) }
 {
     stretches.push(stretch)?;
     numbers.push(number)?;
@@ -128,7 +111,7 @@ fn push_numbered<'a>(
 /// later lines ask of it.
 fn push_item<'a>(
     numbers: &mut Vec<u64>,
-    stretches: &mut Vec<Stretch<'a>>,
+    stretches: &mut GatheredStretches<'a>,
     subrs: &mut BTreeSet<u16>,
     glyphs: &mut IndexSet<&'a [u8]>,
     number: u64,
@@ -137,7 +120,7 @@ fn push_item<'a>(
 ) -> Result<(), AllocError>
     ensures number { OnOk result (numbers.new.items ≡ numbers.old.items ++ number ∷ []) }
     ensures stretch { OnOk result
-        (stretches.new.items ≡ stretches.old.items ++ kinds.One item.entry ∷ []) }
+        (stretches.new ≡ stretches.old ++ kinds.One item.entry ∷ []) }
     ensures subrs { OnOk result (KeepsNumbers subrs.old.keys subrs.new.keys item.entry) }
     ensures glyphs { OnOk result
         (KeepsNames glyphs.old.keys glyphs.new.keys (option_map (λ n. n.now) name.entry)) }
@@ -150,15 +133,15 @@ fn push_item<'a>(
 }
 
 impl<'a> Gathered<'a> {
-    /// No items, with room for those that so many bytes may have. An entry of a font takes some 256
-    /// bytes or more; where the items are more, the room grows.
+    /// No items, with room for the numbers of those that so many bytes may have. An entry of a font
+    /// takes some 256 bytes or more; where the items are more, the room grows.
     pub fn for_bytes(alloc: Global, len: usize) -> Result<Self, AllocError>
         ensures { IfOk result (λ g. g ≡ []) }
     {
         let room = len / BYTES_OF_AN_ITEM;
         Ok(Gathered {
             numbers: Vec::with_capacity(alloc, room)?,
-            stretches: Vec::with_capacity(alloc, room)?,
+            stretches: GatheredStretches::new(alloc),
             has_subrs_line: false,
             has_glyphs_line: false,
             subrs: BTreeSet::new(alloc),
@@ -199,7 +182,7 @@ impl<'a> Gathered<'a> {
     pub fn first_saying(&self) -> Option<(u64, &Item<'a>)>
         ensures { option_map (λ i. (i.0, i.1.now)) result ≡ find (λ i. says_lead i.1) self.now }
     {
-        first_saying(self.numbers.as_slice(), self.stretches.as_slice())
+        self.stretches.first_saying(self.numbers.as_slice())
     }
 
     /// The items without their numbers. None of them is copied. Want of memory is answered where
@@ -215,7 +198,7 @@ impl<'a> Gathered<'a> {
             subrs: _subrs,
             glyphs: _glyphs,
         } = self;
-        Items::of_stretches(stretches)
+        Items::of_lists(stretches.into_lists()?)
     }
 
     /// The items and some plain lines that stand together, of which the first has this number.

@@ -12,6 +12,7 @@ ghost use Rattle.t1_parts.specs.EntryKeys.{IsEntryAt, IsThrough};
 ghost use Rattle.t1_parts.specs.Items.{items_in};
 ghost use Rattle.t1_parts.specs.ItemRefs.{item_of};
 ghost use Rattle.t1_parts.specs.LenIV.{lead_among, says_lead};
+ghost use Rattle.t1_parts.specs.Stretches.{stretches_in};
 
 use crate::blocks::Blocks;
 use crate::entry_key::{EntryKey, ItemKind};
@@ -86,11 +87,11 @@ impl<'a> Items<'a> {
         }
     }
 
-    /// The items of some stretches. None of them is copied.
-    pub(crate) fn of_stretches(stretches: Vec<Stretch<'a>>) -> Result<Items<'a>, AllocError>
-        ensures { IfOk result (λ items. items ≡ items_in stretches.entry.items) }
+    /// The items of some stretches, of which each list becomes a block. None of them is moved.
+    pub(crate) fn of_lists(lists: Vec<Vec<Stretch<'a>>>) -> Result<Items<'a>, AllocError>
+        ensures { IfOk result (λ items. items ≡ items_in (stretches_in lists.entry.items)) }
     {
-        let blocks = Blocks::of_stretches(stretches)?;
+        let blocks = Blocks::of_lists(lists)?;
         let len = blocks.len()?;
         let lead = lead_of(blocks.iter(len));
         let needs = needs_among(blocks.iter(len));

@@ -16,6 +16,7 @@ mod body;
 mod encoding;
 mod entry_key;
 mod gathered;
+mod gathered_stretches;
 mod header;
 mod item;
 mod item_ref;

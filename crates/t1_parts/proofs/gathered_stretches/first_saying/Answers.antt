@@ -1,6 +1,6 @@
 use Rattle.std.proofs.Common.{◌∙◌, sym}
 use Rattle.t1_parts.proofs.NumberedLaws.{said_there, said_later}
-use Rattle.t1_parts.proofs.gathered.first_saying.Goals as goal
+use Rattle.t1_parts.proofs.gathered_stretches.first_saying.Goals as goal
 
 pub returns-in-Some : goal.returns-in-Some
 returns-in-Some c =

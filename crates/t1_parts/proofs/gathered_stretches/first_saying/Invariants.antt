@@ -2,7 +2,7 @@ use Rattle.std.proofs.Common.{◌≡◌, drop}
 use Rattle.std.specs.List.{find}
 use Rattle.t1_parts.specs.LenIV.{says_lead}
 use Rattle.t1_parts.specs.NumberedStretches.{numbered_in}
-use Rattle.t1_parts.proofs.gathered.first_saying.Given as goal
+use Rattle.t1_parts.proofs.gathered_stretches.first_saying.Given as goal
 
 -- none of the stretches before the rest says lenIV
 abbrev pub invariant-loop-at : goal.invariant-loop-at
