@@ -1,10 +1,8 @@
 //! How long the private text is, and whether a part of the PFB file is too long: of a source, and
 //! of the one that edits make of it, whose charstrings are made ready here.
-ghost use Rattle.std.specs.Prelude.{◌≡◌, ◌^◌, ◌-◌, ◌∷◌, ◌++◌, ◌<◌, [], Some, Ok, Err, IfOk};
-ghost use Rattle.std.specs.Prelude.{MatchResult, decimal, min, length, option_copied, true, false};
-ghost use Rattle.t1_frac.specs.Ascii.{line_feed};
+ghost use Rattle.std.specs.Prelude.{◌≡◌, ◌^◌, ◌-◌, ◌<◌, Some, Ok, Err, IfOk};
+ghost use Rattle.std.specs.Prelude.{MatchResult, min, length, option_copied, true, false};
 ghost use Rattle.t1_frac.specs.Outcome.{Gives};
-ghost use Rattle.t1_code.specs.Pfb.{closing_text};
 ghost use Rattle.t1_parts.specs.Counts.{glyphs_needed};
 ghost use Rattle.t1_parts.specs.ItemRefs.{item_of};
 ghost use Rattle.t1_parts.specs.LenIV.{lead};
@@ -28,37 +26,10 @@ use crate::edited::EditedEntries;
 use crate::entries::{Charstrings, Entry, make_room};
 use crate::raising::{Needed, check_raised_sections, needed_with, raised_sections_len};
 use crate::settling::{ReadyCharstrings, ReadyLines};
-use itoa::Buffer;
-use t1_font::check_parts;
+use t1_font::{check_parts, entry_line_len, section_line_len};
 use t1_frac::{Fault, Refusal};
 use t1_parts::{ItemRef, Items};
 use t1_source::{Change, EditedSource, Item, Source};
-
-/// How long a closing text is with the space before it.
-fn closing_len(closing: &[u8]) -> usize
-    ensures { result ≡ min (length (closing_text closing.now)) (2 ^ 64 - 1) }
-{
-    if closing.is_empty() {
-        0
-    } else {
-        closing.len().saturating_add(1)
-    }
-}
-
-/// How long the line of an entry is, up to 2^64 - 1.
-pub fn entry_line_len(operator: &[u8], entry: &Entry, closing: &[u8]) -> usize
-    ensures { result
-        ≡ min (length (kept_entry_line operator.now closing.now (Some entry.now))) (2 ^ 64 - 1) }
-{
-    let digits = Buffer::new().format(entry.charstring().len()).len();
-    // Three spaces and the line's end.
-    digits
-        .saturating_add(4)
-        .saturating_add(entry.head().len())
-        .saturating_add(operator.len())
-        .saturating_add(entry.charstring().len())
-        .saturating_add(closing_len(closing))
-}
 
 /// How long the line of an entry is whose charstring may be kept, up to 2^64 - 1; 0 where it isn't.
 pub(crate) fn kept_line_len(operator: &[u8], kept: Option<&Entry>, closing: &[u8]) -> usize
@@ -68,20 +39,11 @@ pub(crate) fn kept_line_len(operator: &[u8], kept: Option<&Entry>, closing: &[u8
 {
     match kept {
         None => 0,
-        Some(entry) => entry_line_len(operator, entry, closing),
+        Some(entry) => {
+            let head = entry.head().len();
+            entry_line_len(operator, head, entry.charstring().len(), closing)
+        }
     }
-}
-
-/// How long a section line is, up to 2^64 - 1.
-pub(crate) fn section_line_len(before: &[u8], count: u64, after: &[u8]) -> usize
-    ensures { result
-        ≡ min (length (before.now ++ decimal count ++ after.now ++ line_feed ∷ [])) (2 ^ 64 - 1) }
-{
-    let digits = Buffer::new().format(count).len();
-    digits
-        .saturating_add(1)
-        .saturating_add(before.len())
-        .saturating_add(after.len())
 }
 
 /// How long the line of an item is, up to 2^64 - 1.

@@ -49,7 +49,5 @@ pub use encrypted::{
 };
 pub use entries::{Charstrings, Entry, insert_glyph, insert_subr, make_room, no_charstrings};
 pub use files::write_kept_file;
-pub use lengths::{
-    check_length, entry_line_len, line_len, prepare_lines, private_len, sections_len,
-};
+pub use lengths::{check_length, line_len, prepare_lines, private_len, sections_len};
 pub use settling::{ReadyCharstrings, ReadyLines, settle_lines};

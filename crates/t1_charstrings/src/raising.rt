@@ -10,8 +10,8 @@ ghost use Rattle.t1_charstrings.specs.Raising.{is_raised_counted, raised_check, 
 ghost use Rattle.t1_charstrings.specs.Sums.{section_line};
 
 use crate::entries::Charstrings;
-use crate::lengths::{line_len, section_line_len};
-use t1_font::TEN_DIGITS;
+use crate::lengths::line_len;
+use t1_font::{TEN_DIGITS, section_line_len};
 use t1_frac::{Code, Fault};
 use t1_parts::{ItemRef, Items, ItemsIter};
 use t1_source::Item;

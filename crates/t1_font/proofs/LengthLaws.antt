@@ -176,3 +176,9 @@ pub length_faulty : (s : SourceParts) (refused : Refusal) → Refuses refused (p
 unfolding length_check source_file
 length_faulty s refusals.Memory h = tt
 length_faulty s (refusals.Fault fault) h = rw (unlength (private_text (lead s) (operator s) s.items) fault h) refl
+
+-- what is refused for the length of a part is refused for the file
+pub length_refused : (s : SourceParts) (refused : Refusal) → Refuses refused (length_check s) → Refuses refused (file_check s)
+unfolding file_check
+length_refused s refusals.Memory h = tt
+length_refused s (refusals.Fault fault) h = rw h refl

@@ -10,7 +10,7 @@ ghost use Rattle.t1_frac.specs.Outcome.{Gives, reported_at};
 ghost use Rattle.t1_parts.specs.ItemRefs.{item_of};
 ghost use Rattle.t1_code.specs.Cipher.{encrypted_words};
 ghost use Rattle.t1_code.specs.Pfb.{closing_text, entry_text};
-ghost use Rattle.t1_font.specs.Lengths.{put_after, private_length};
+ghost use Rattle.t1_font.specs.Lengths.{put_after};
 ghost use Rattle.t1_frac.specs.declared.fault.Place.TheVariants as places;
 
 use itoa::Buffer;
@@ -184,27 +184,6 @@ fn private_text_of(
         push_item(alloc, &mut text, &mut code, lead, operator, &item)?;
     }
     Ok(text)
-}
-
-/// How long the private text of the items is, up to 2^64 - 1, or the first fault of a body, at its
-/// entry. Each line is made in the place of the one before it.
-pub(crate) fn private_text_len(
-    alloc: Global,
-    lead: u8,
-    operator: &[u8],
-    items: &Items,
-) -> Result<usize, Refusal>
-    ensures { Gives (λ len. len) result (private_length lead operator.now items.now) }
-{
-    let mut line = Vec::new(alloc);
-    let mut code = Vec::new(alloc);
-    let mut total: usize = 0;
-    for item in items.iter() {
-        line.clear();
-        push_item(alloc, &mut line, &mut code, lead, operator, &item)?;
-        total = total.saturating_add(line.len());
-    }
-    Ok(total)
 }
 
 /// The text of the clear part: its lines, each with its end.

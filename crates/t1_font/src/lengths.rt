@@ -1,8 +1,8 @@
 //! How long the parts of a source's PFB file are, and whether one is too long.
-ghost use Rattle.std.specs.Prelude.{◌≡◌, ◌≤◌, ◌<◌, ◌+◌, ◌*◌, ◌^◌, ◌-◌, min, length, true, Ok, IfOk};
-ghost use Rattle.std.specs.Prelude.{IsOk};
+ghost use Rattle.std.specs.Prelude.{◌≡◌, ◌≤◌, ◌<◌, ◌+◌, ◌*◌, ◌^◌, ◌-◌, min, length, true, Ok};
+ghost use Rattle.std.specs.Prelude.{IfErr, IfOk, IsOk, OnOk};
 ghost use Rattle.std.specs.List.{list_all};
-ghost use Rattle.t1_frac.specs.Outcome.{Gives};
+ghost use Rattle.t1_frac.specs.Outcome.{Gives, Refuses};
 ghost use Rattle.t1_text.specs.Lines.{joined};
 ghost use Rattle.t1_parts.specs.ItemRefs.{item_of};
 ghost use Rattle.t1_parts.specs.SourceParts.{SourceParts};
@@ -14,8 +14,9 @@ ghost use Rattle.t1_font.specs.Assembly.{private_text, source_file};
 ghost use Rattle.t1_source.specs.WellFormed.{is_counted};
 ghost use Rattle.t1_font.specs.Lengths.{IsPrivateLen};
 
-use crate::assembly::{ZEROS_LEN, private_text_len};
+use crate::assembly::ZEROS_LEN;
 use crate::bodies::compiled;
+use crate::line_lengths::private_len;
 use itoa::Buffer;
 use std::alloc::Global;
 use t1_code::{EEXEC_LEAD, MAX_PART};
@@ -123,18 +124,20 @@ pub fn check_parts(clear: &[Bytes], private_len: usize, tail: &[Bytes]) -> Resul
     Ok(())
 }
 
-/// F23 where a part of the PFB file of a source is too long. Its bodies have no fault. Lines are
-/// made only where the source is so long that the lengths of its texts don't answer, and none is
-/// kept.
-#[tactic(auto, using(crate::proofs::LengthLaws::length_checked), unfolding(crate::specs::Assembly::length_check))]
+/// F23 where a part of the PFB file of a source is too long, or the first fault of a body; neither
+/// is said where the lengths of the source's texts show that no part is too long. Else the lengths
+/// of its lines are added up, and no charstring is kept.
+#[tactic(auto, using(crate::proofs::LengthLaws::length_checked))]
 fn check_length(alloc: Global, source: &Source) -> Result<(), Refusal>
-    requires { bodies_check source.now.items ≡ Ok tt }
-    ensures { Gives (λ x. x) result (length_check source.now) }
+    ensures checked { OnOk result
+        (bodies_check source.now.items ≡ Ok tt
+        → length_check source.now ≡ Ok tt) }
+    ensures refused { IfErr result (λ refused. Refuses refused (length_check source.now)) }
 {
     if is_short(source) {
         return Ok(());
     }
-    let len = private_text_len(alloc, source.lead(), source.operator(), source.items())?;
+    let len = private_len(alloc, source.lead(), source.operator(), source.items())?;
     check_parts(source.clear(), len, source.tail())?;
     Ok(())
 }
@@ -188,15 +191,16 @@ pub(crate) fn check_file(alloc: Global, source: &Source) -> Result<(), Refusal>
 }
 
 /// The compiled bodies of a source whose PFB file and text have no fault; or their fault: the first
-/// of a body, at its entry, else F23.
-#[tactic(auto, using(crate::proofs::LengthLaws::body_fault_reported))]
+/// of a body, at its entry, else F23. None is kept of a source whose PFB file is too long.
+#[tactic(auto, using(crate::proofs::LengthLaws::body_fault_reported, crate::proofs::LengthLaws::length_refused), unfolding(crate::specs::Assembly::file_check))]
 pub fn checked_bodies(alloc: Global, source: &Source) -> Result<Plain, Refusal>
     ensures file { Gives (λ _. tt) result (file_check source.now) }
     ensures no_fault { IfOk result (λ _. bodies_check source.now.items ≡ Ok tt) }
     ensures bodies { IfOk result
         (λ plain. SameBodies (plain_bodies plain) (bodies_of source.now.items)) }
 {
+    check_length(alloc, source)?;
     let bodies = compiled(alloc, source.items())?;
-    check_file(alloc, source)?;
+    check_counts(source.items())?;
     Ok(bodies)
 }

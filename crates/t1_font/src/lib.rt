@@ -4,7 +4,8 @@
 //!
 //! [`compiled`] gives the bodies of a private part, or the first fault of one; [`checked_bodies`]
 //! also judges the length of the PFB file, as [`check_parts`] does by the length of the private
-//! text, and the counts ([`check_counts`]). [`measured_glyphs`] compiles, runs and measures the
+//! text, and the counts ([`check_counts`]). [`entry_line_len`] and [`section_line_len`] are the
+//! lengths of two kinds of lines of that text. [`measured_glyphs`] compiles, runs and measures the
 //! glyphs one after another, and [`metrics`] is what the AFM file of a source and its pairs says.
 //! [`runs_of`] and [`glyph_metrics_of`] run and measure glyphs whose bodies are stored.
 //! [`write_source_pfb`] and [`write_source_afm`] write the files, whose plain parts are
@@ -51,6 +52,7 @@ mod in_turn;
 mod kern;
 pub mod laws;
 mod lengths;
+mod line_lengths;
 mod numbers;
 mod owned_key;
 mod reported;
@@ -71,6 +73,7 @@ pub use glyph_metrics::{GlyphMetrics, PlacedParts, glyph_metrics_of, metrics_of_
 pub use glyph_parts::GlyphParts;
 pub use glyphs::{MeasuredGlyphs, glyph_names};
 pub use lengths::{TEN_DIGITS, check_counts, check_parts, checked_bodies};
+pub use line_lengths::{entry_line_len, section_line_len};
 pub use numbers::SubrNumbers;
 pub use owned_key::OwnedKey;
 pub use runs::{Runs, runs_of};

@@ -2,7 +2,7 @@ use Rattle.std.proofs.Common.{◌≡◌, ◌≤◌, ◌^◌, ◌-◌}
 use Rattle.t1_font.specs.Assembly.{private_text}
 use Rattle.t1_font.specs.Lengths.{private_length}
 use Rattle.t1_font.proofs.PrivateLaws.{added}
-use Rattle.t1_font.proofs.assembly.private_text_len.Given as goal
+use Rattle.t1_font.proofs.line_lengths.private_len.Given as goal
 
 -- the lengths so far, with that of the items that are left
 abbrev pub invariant-loop-item : goal.invariant-loop-item
