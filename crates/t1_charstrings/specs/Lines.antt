@@ -6,8 +6,8 @@ use Rattle.t1_parts.specs.declared.item.Item.{Item}
 use Rattle.t1_parts.specs.declared.item.Item.TheVariants.{Plain, Section, Subr, Glyph}
 use Rattle.t1_code.specs.Pfb.{entry_text}
 use Rattle.t1_charstrings.specs.declared.entries.Charstrings.{Charstrings}
-use Rattle.t1_charstrings.specs.declared.lines.KeptLine.{KeptLine}
-use Rattle.t1_charstrings.specs.declared.lines.KeptLine.TheVariants as lines
+use Rattle.t1_charstrings.specs.declared.lines.KeptLines.{KeptLines}
+use Rattle.t1_charstrings.specs.declared.lines.KeptLines.TheVariants as made
 use Rattle.t1_charstrings.specs.Entries.{KeptCharstring, glyph_charstring, subr_charstring}
 
 -- Type 1 Font Format, Chapter 2: the line of an entry, and nothing where its charstring isn't kept
@@ -26,8 +26,11 @@ kept_line c operator (Glyph name words closing) = kept_entry_line operator closi
 abbrev pub kept_lines_text : Charstrings → List ℕ → List Item → List ℕ
 kept_lines_text c operator items = flat_map (kept_line c operator) items
 
--- word: the bytes of a line that is ready to be written
-abbrev pub kept_line_text : KeptLine → List ℕ
-kept_line_text (lines.Plain bytes) = bytes.now ++ line_feed ∷ []
-kept_line_text (lines.Text bytes) = bytes.items
-kept_line_text (lines.Entry entry operator closing) = entry_text entry.now.head operator.now entry.now.charstring closing.now
+-- word: the bytes of lines that are ready to be written
+abbrev pub made_text : KeptLines → List ℕ
+made_text (made.Text bytes) = bytes.items
+made_text (made.Entry entry operator closing) = entry_text entry.now.head operator.now entry.now.charstring closing.now
+
+-- word: the bytes of all such lines, and of the text behind them
+abbrev pub made_texts : List KeptLines → List ℕ → List ℕ
+made_texts lines text = flat_map made_text lines ++ text

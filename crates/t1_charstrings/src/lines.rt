@@ -6,20 +6,19 @@ ghost use Rattle.t1_code.specs.Parts.{piece_text};
 ghost use Rattle.t1_parts.specs.ItemRefs.{item_of};
 ghost use Rattle.t1_charstrings.specs.Entries.{glyph_charstring};
 ghost use Rattle.t1_charstrings.specs.Lines.{kept_entry_line, kept_line, kept_lines_text};
-ghost use Rattle.t1_charstrings.specs.Lines.{kept_line_text};
+ghost use Rattle.t1_charstrings.specs.Lines.{made_text, made_texts};
 
 use crate::entries::{Charstrings, Entry};
 use indexmap::IndexMap;
 use std::alloc::{AllocError, Global};
+use std::mem::replace;
 use t1_code::Piece;
-use t1_parts::{ItemRef, Items, push_decimal};
+use t1_parts::{ItemRef, Items, push_decimal, push_line};
 
-/// A line of the private text, ready to be written.
+/// Lines of the private text, ready to be written.
 #[derive(Drop)]
-pub enum KeptLine<'a> {
-    /// A line without its end.
-    Plain(&'a [u8]),
-    /// Bytes as they are written.
+pub enum KeptLines<'a> {
+    /// Plain lines and section lines between two entries, each with its end.
     Text(Vec<u8>),
     /// The parts of an entry's line.
     Entry {
@@ -29,41 +28,20 @@ pub enum KeptLine<'a> {
     },
 }
 
-/// A section line with its count and its end.
-fn section_text(
-    alloc: Global,
+/// Adds a section line with its count and its end.
+fn push_section(
+    text: &mut Vec<u8>,
     before: &[u8],
     count: u64,
     after: &[u8],
-) -> Result<Vec<u8>, AllocError>
-    ensures { IfOk result
-        (λ text. text.items ≡ before.now ++ decimal count ++ after.now ++ line_feed ∷ []) }
+) -> Result<(), AllocError>
+    ensures { OnOk result
+        (text.new.items
+        ≡ text.old.items ++ before.now ++ decimal count ++ after.now ++ line_feed ∷ []) }
 {
-    let mut text = Vec::from_slice(alloc, before)?;
-    push_decimal(&mut text, count)?;
-    text.extend_from_slice(after)?;
-    text.push(b'\n')?;
-    Ok(text)
-}
-
-/// The line of an entry.
-fn entry_line<'a>(
-    alloc: Global,
-    operator: &'a [u8],
-    kept: Option<&'a Entry>,
-    closing: &'a [u8],
-) -> KeptLine<'a>
-    ensures { kept_line_text result
-        ≡ kept_entry_line operator.now closing.now (option_copied kept.entry) }
-{
-    match kept {
-        None => KeptLine::Text(Vec::new(alloc)),
-        Some(entry) => KeptLine::Entry {
-            entry,
-            operator,
-            closing,
-        },
-    }
+    text.extend_from_slice(before)?;
+    push_decimal(text, count)?;
+    push_line(text, after)
 }
 
 /// The entry of a glyph, which mostly stands at this place among the others: in the order of the
@@ -83,93 +61,126 @@ fn glyph_entry<'a>(
     glyphs.get(name)
 }
 
-/// The line of an item, after so many glyphs, which it raises where it is one.
-fn line_of<'a>(
+/// Adds the line of an entry, if its charstring is kept, after the text in front of it, which is
+/// empty then.
+fn push_entry<'a>(
     alloc: Global,
+    lines: &mut Vec<KeptLines<'a>>,
+    text: &mut Vec<u8>,
+    operator: &'a [u8],
+    kept: Option<&'a Entry>,
+    closing: &'a [u8],
+) -> Result<(), AllocError>
+    ensures { OnOk result
+        (made_texts lines.new.items text.new.items
+        ≡ made_texts lines.old.items text.old.items
+        ++ kept_entry_line operator.now closing.now (option_copied kept.entry)) }
+{
+    let Some(entry) = kept else {
+        return Ok(());
+    };
+    if !text.is_empty() {
+        lines.push(KeptLines::Text(replace(text, Vec::new(alloc))))?;
+    }
+    lines.push(KeptLines::Entry {
+        entry,
+        operator,
+        closing,
+    })?;
+    Ok(())
+}
+
+/// Adds the line of an item, after so many glyphs, which it raises where it is one.
+fn push_item<'a>(
+    alloc: Global,
+    lines: &mut Vec<KeptLines<'a>>,
+    text: &mut Vec<u8>,
     charstrings: &'a Charstrings,
     operator: &'a [u8],
     place: &mut usize,
     item: &ItemRef<'a, '_>,
-) -> Result<KeptLine<'a>, AllocError>
-    ensures { IfOk result
-        (λ line.
-        kept_line_text line ≡ kept_line charstrings.now operator.now (item_of item.now)) }
+) -> Result<(), AllocError>
+    ensures { OnOk result
+        (made_texts lines.new.items text.new.items
+        ≡ made_texts lines.old.items text.old.items
+        ++ kept_line charstrings.now operator.now (item_of item.now)) }
 {
     match item {
-        ItemRef::Plain(line) => Ok(KeptLine::Plain(line)),
-        ItemRef::Section(before, count, after) => {
-            let text = section_text(alloc, before, *count, after)?;
-            Ok(KeptLine::Text(text))
-        }
+        ItemRef::Plain(line) => push_line(text, line),
+        ItemRef::Section(before, count, after) => push_section(text, before, *count, after),
         ItemRef::Subr(number, _, closing) => {
             let kept = charstrings.subrs.get(number);
-            Ok(entry_line(alloc, operator, kept, closing))
+            push_entry(alloc, lines, text, operator, kept, closing)
         }
         ItemRef::Glyph(name, _, closing) => {
             let kept = glyph_entry(&charstrings.glyphs, *place, name);
             *place = place.saturating_add(1);
-            Ok(entry_line(alloc, operator, kept, closing))
+            push_entry(alloc, lines, text, operator, kept, closing)
         }
     }
 }
 
-/// The lines of the private text. An entry takes one look-up at most, and no copy.
+/// The lines of the private text: those between two entries as one text. An entry takes one
+/// look-up at most, and no copy.
 pub(crate) fn lines_of<'a>(
     alloc: Global,
     charstrings: &'a Charstrings,
     operator: &'a [u8],
     items: &'a Items,
-) -> Result<Vec<KeptLine<'a>>, AllocError>
+) -> Result<Vec<KeptLines<'a>>, AllocError>
     ensures { IfOk result
         (λ lines.
-        flat_map kept_line_text lines.items
+        flat_map made_text lines.items
         ≡ kept_lines_text charstrings.now operator.now items.now) }
 {
-    let mut lines = Vec::with_capacity(alloc, items.len())?;
+    let mut lines = Vec::new(alloc);
+    let mut text = Vec::new(alloc);
     let mut place = 0;
     for item in items.iter() {
-        lines.push(line_of(alloc, charstrings, operator, &mut place, &item)?)?;
+        push_item(
+            alloc,
+            &mut lines,
+            &mut text,
+            charstrings,
+            operator,
+            &mut place,
+            &item,
+        )?;
     }
+    lines.push(KeptLines::Text(text))?;
     Ok(lines)
 }
 
-/// Adds the pieces of a line.
-fn push_pieces<'a>(pieces: &mut Vec<Piece<'a>>, line: &'a KeptLine<'a>) -> Result<(), AllocError>
-    ensures { OnOk result
-        (flat_map piece_text pieces.new.items
-        ≡ flat_map piece_text pieces.old.items ++ kept_line_text line.now) }
+/// A piece of the private text as the writers of files take it.
+fn piece_of<'a>(lines: &'a KeptLines<'a>) -> Piece<'a>
+    ensures { piece_text result ≡ made_text lines.now }
 {
-    match line {
-        KeptLine::Plain(bytes) => {
-            pieces.push(Piece::Plain(bytes))?;
-            pieces.push(Piece::Plain(b"\n"))?;
-        }
-        KeptLine::Text(bytes) => pieces.push(Piece::Plain(bytes.as_slice()))?,
-        KeptLine::Entry {
+    match lines {
+        KeptLines::Text(bytes) => Piece::Plain(bytes.as_slice()),
+        KeptLines::Entry {
             entry,
             operator,
             closing,
-        } => pieces.push(Piece::Entry {
+        } => Piece::Entry {
             head: entry.head(),
             operator,
             charstring: entry.charstring(),
             closing,
-        })?,
+        },
     }
-    Ok(())
 }
 
 /// The private text as the writers of files take it.
 pub(crate) fn pieces_of<'a>(
     alloc: Global,
-    lines: &'a [KeptLine<'a>],
+    lines: &'a [KeptLines<'a>],
 ) -> Result<Vec<Piece<'a>>, AllocError>
     ensures { IfOk result
-        (λ pieces. flat_map piece_text pieces.items ≡ flat_map kept_line_text lines.now) }
+        (λ pieces. flat_map piece_text pieces.items ≡ flat_map made_text lines.now) }
 {
-    let mut pieces = Vec::new(alloc);
-    for line in lines {
-        push_pieces(&mut pieces, line)?;
+    let mut pieces = Vec::with_capacity(alloc, lines.len())?;
+    for made in lines {
+        pieces.push(piece_of(made))?;
     }
     Ok(pieces)
 }
