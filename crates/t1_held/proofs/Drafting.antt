@@ -255,7 +255,7 @@ edit-drafted entries s old k edit new ps e well was = record {
 -- ---- the call
 
 module _ (old : Draft) (edit : Edit) (change : Change) (source new : SourceParts) (pairs ps : List Pair) (entry : Option EditedEntry) (es mid made : List EditedEntry)
-    (view : record { source = source; pairs = pairs; entries = map entry_edit es } ≡ old)
+    (view : record { source = source; pairs = pairs; keys = keys (map entry_edit es) } ≡ old)
     (reported : edited source pairs edit ≡ Ok (changed change source pairs))
     (source-is : new ≡ (changed change source pairs).0) (pairs-are : ps ≡ (changed change source pairs).1)
     (named-is : option_map entry_edit entry ≡ option_map (noted_of (adds edit) (after_edit edit)) (entry_key edit))
@@ -266,10 +266,13 @@ module _ (old : Draft) (edit : Edit) (change : Change) (source new : SourceParts
   are-noted : map entry_edit made ≡ map entry_edit es ++ edited_entries edit
   are-noted = entries-noted source pairs edit new ps entry es made is-made named-is (more ∙ ap (λ l. l ++ option_to_list entry) room)
 
-  pub drafts : (edited old.source old.pairs edit ≡ Ok (new, ps)) × (map entry_edit made ≡ old.entries ++ edited_entries edit)
-  drafts = (ap (λ d. edited d.source d.pairs edit) (sym view) ∙ is-made, are-noted ∙ ap (λ d. d.entries ++ edited_entries edit) view)
+  pub drafts : (edited old.source old.pairs edit ≡ Ok (new, ps)) × (keys (map entry_edit made) ≡ old.keys ++ named edit)
+  drafts = (
+    ap (λ (d : Draft). edited d.source d.pairs edit) (sym view) ∙ is-made,
+    ap keys are-noted ∙ sym (more-keys (map entry_edit es) edit) ∙ ap (λ (d : Draft). d.keys ++ named edit) view,
+  )
 
-  pub draft-of : IsWellFormed (changed change source pairs).0 → (s : SourceParts) → IsEditedBy old.entries s old.source → IsEditedBy (map entry_edit made) s new
+  pub draft-of : IsWellFormed (changed change source pairs).0 → (s : SourceParts) → IsEditedBy (map entry_edit es) s source → IsEditedBy (map entry_edit made) s new
   draft-of well s was =
       subst (λ l. IsEditedBy l s new) (sym are-noted)
-      (edit-drafted (map entry_edit es) s source pairs edit new ps is-made (subst IsWellFormed (sym source-is) well) (subst (λ d. IsEditedBy d.entries s d.source) (sym view) was))
+      (edit-drafted (map entry_edit es) s source pairs edit new ps is-made (subst IsWellFormed (sym source-is) well) was)

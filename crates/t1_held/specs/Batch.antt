@@ -26,18 +26,18 @@ pub record EntryEdit : Type 0 where
 abbrev pub entry_edit : EditedEntry → EntryEdit
 entry_edit e = record { key = key_of e.named; added = e.added; after = e.after }
 
--- profile, batches: whether an edit adds an entry
+-- word, batches: whether an edit adds an entry
 abbrev pub adds : Edit → Bool
 adds (AddGlyph g body) = true
 adds (AddSubr n body) = true
 adds _ = false
 
--- profile, batches: an entry of these commands, or one whose words have a fault
+-- word, batches: an entry of these commands, or one whose words have a fault
 abbrev pub after_commands : Result (List Command) Code → AfterEdit
 after_commands (Ok body) = Body body
 after_commands (Err code) = Fault
 
--- profile, batches: what the entry that an edit names is after it
+-- word, batches: what the entry that an edit names is after it
 abbrev pub after_edit : Edit → AfterEdit
 after_edit (ReplaceGlyph g body) = after_commands (commands (body_words body))
 after_edit (AddGlyph g body) = after_commands (commands (body_words body))
@@ -45,41 +45,43 @@ after_edit (ReplaceSubr n body) = after_commands (commands (body_words body))
 after_edit (AddSubr n body) = after_commands (commands (body_words body))
 after_edit _ = Removed
 
--- profile, batches: the body of an entry after an edit, where its words have no fault
+-- word, batches: the body of an entry after an edit, where its words have no fault
 abbrev pub body_of : AfterEdit → Option (List Command)
 body_of (Body body) = Some body
 body_of Fault = None
 body_of Removed = None
 
--- profile, batches: whether the words of an entry have a fault
+-- word, batches: whether the words of an entry have a fault
 abbrev pub is_fault : AfterEdit → Bool
 is_fault (Body body) = false
 is_fault Fault = true
 is_fault Removed = false
 
--- profile, batches: whether the words of an edit have a fault
+-- word, batches: whether the words of an edit have a fault
 abbrev pub has_fault : List EntryEdit → Bool
 has_fault entries = list_any (λ e. is_fault e.after) entries
 
--- profile, edits: the entry that an edit names; none where it edits slots, lenIV or pairs alone
+-- word, batches: the entry that an edit names; none where it edits slots, lenIV or pairs alone
 abbrev pub edited_entries : Edit → List EntryEdit
 edited_entries edit = map (λ key. record { key = key; added = adds edit; after = after_edit edit }) (named edit)
 
--- profile, batches: the source and the pairs after the edits of a batch so far, and the entries that the edits name
+-- profile, batches: the keys of these entries
+abbrev pub keys : List EntryEdit → List Key
+keys entries = map (λ e. e.key) entries
+
+-- profile, batches: the source and the pairs after the edits of a batch so far, and the keys of the entries that the edits name
 pub record Draft : Type 0 where
   pub source : SourceParts
   pub pairs : List Pair
-  pub entries : List EntryEdit
+  pub keys : List Key
 
--- profile, batches: a draft, and the count of what its edits changed of the lines beside their charstrings
+-- profile, batches: a draft, what became of the entries that its edits name, and the count of what they changed of the lines beside their
+-- charstrings
 pub record DraftedBatch : Type 0 where
   pub draft : Draft
+  pub entries : List EntryEdit
   pub beside : Option ℕ
 
 -- word, batches: where this count begins
 abbrev pub count_begin : ℕ
 count_begin = 2 ^ 63
-
--- profile, batches: the keys of these entries
-abbrev pub keys : List EntryEdit → List Key
-keys entries = map (λ e. e.key) entries

@@ -18,13 +18,14 @@ use Rattle.t1_run.specs.RunKeys.{body_at, key_eq}
 use Rattle.t1_run.specs.Touched.{is_key_of}
 use Rattle.t1_font.specs.Bodies.{bodies, bodies_check, body_check}
 use Rattle.t1_font.specs.Glyphs.{glyph_names}
+use Rattle.t1_cache.specs.EditKeys.{named}
 use Rattle.t1_cache.specs.Edited.{IsEditedAt}
 use Rattle.t1_rerun.specs.declared.entry_change.EntryChange.{EntryChange}
 use Rattle.t1_rerun.specs.Right.{has_glyph, IsInOrder}
 use Rattle.t1_rerun.specs.Settled.{changed_keys, last_glyphs, was_moved, AreDistinctKeys, HasBody}
 use Rattle.t1_source.specs.declared.edit.Cause.TheVariants as causes
 use Rattle.t1_charstrings.specs.Beside.{put_beside, taken_beside, IsCountedAfter, IsKeptBeside}
-use Rattle.t1_held.specs.Batch.{EntryEdit, body_of, count_begin, edited_entries, has_fault, Draft, DraftedBatch, keys}
+use Rattle.t1_held.specs.Batch.{EntryEdit, body_of, count_begin, has_fault, Draft, DraftedBatch, keys}
 
 -- word, batches: some edit added the glyph
 abbrev pub was_added : List EntryEdit → List ℕ → Bool
@@ -69,7 +70,7 @@ pub record IsEditedBy (entries : List EntryEdit) (old new : SourceParts) : Type 
 
 -- word, batches: a batch on this source
 pub record IsDraftOf (s : SourceParts) (batch : DraftedBatch) : Type 0 where
-  pub edited : IsEditedBy batch.draft.entries s batch.draft.source
+  pub edited : IsEditedBy batch.entries s batch.draft.source
   pub beside : IsKeptBeside s count_begin batch.draft.source batch.beside
 
 -- word, batches: the count after an edit, by what its change takes out and puts in
@@ -79,11 +80,11 @@ pub record IsCountedBy (old new : DraftedBatch) : Type 0 where
   pub made : made_after change old.draft.source ≡ new.draft.source
   pub counted : IsCountedAfter old.beside (taken_beside old.draft.source.items (taken_by change)) (put_beside (put_by change)) new.beside
 
--- word, batches: an edit was made in a batch, and its entry was noted; or it broke a rule, which changes nothing, as want
+-- word, batches: an edit was made in a batch, and the key of its entry was noted; or it broke a rule, which changes nothing, as want
 -- of memory does
 abbrev pub Drafts : {T : Type 0} → Draft → Edit → Result T Cause → Draft → Type 0
 Drafts old edit (Ok done) new =
-    (edited old.source old.pairs edit ≡ Ok (new.source, new.pairs)) × (new.entries ≡ old.entries ++ edited_entries edit)
+    (edited old.source old.pairs edit ≡ Ok (new.source, new.pairs)) × (new.keys ≡ old.keys ++ named edit)
 Drafts old edit (Err (causes.Rule rule)) new = (edited old.source old.pairs edit ≡ Err rule) × (new ≡ old)
 Drafts old edit (Err (causes.Fault fault)) new = ⊥
 Drafts old edit (Err causes.Memory) new = new ≡ old

@@ -11,10 +11,10 @@ use Rattle.t1_source.specs.declared.edit.Cause.{Cause}
 use Rattle.t1_source.specs.declared.edit.Cause.TheVariants as causes
 use Rattle.t1_source.specs.Editing.{edited}
 use Rattle.t1_font.specs.SourceChecks.{source_check}
+use Rattle.t1_run.specs.Run.{Key}
 use Rattle.t1_cache.specs.EditKeys.{named}
-use Rattle.t1_held.specs.Batch.{Draft, EntryEdit, edited_entries, keys}
+use Rattle.t1_held.specs.Batch.{Draft}
 use Rattle.t1_held.specs.Drafting.{Drafts}
-use Rattle.t1_held.proofs.Drafting.{entry-keys}
 use Rattle.t1_commands.specs.Answers.{Performed}
 use Rattle.t1_commands.specs.declared.command.SessionCommand.TheVariants as commands
 use Rattle.t1_session.specs.declared.open_batch.OpenBatch.{OpenBatch}
@@ -55,14 +55,14 @@ closed_is s k (batches.Single edit near) h e =
 closed_is s k (batches.Drafted batch) h e = absurd (cc)
 
 -- the copies of a batch of one edit
-pub made_of : (s : SourceParts) (k : List Pair) (edit : Edit) (first now : Draft) → first ≡ record { source = s; pairs = k; entries = [] }
-    → edited first.source first.pairs edit ≡ Ok (now.source, now.pairs) → now.entries ≡ first.entries ++ edited_entries edit
+pub made_of : (s : SourceParts) (k : List Pair) (edit : Edit) (first now : Draft) → first ≡ record { source = s; pairs = k; keys = [] }
+    → edited first.source first.pairs edit ≡ Ok (now.source, now.pairs) → now.keys ≡ first.keys ++ named edit
     → (made : SourceParts × List Pair) → edited s k edit ≡ Ok made → now ≡ draft_of_edit edit made
 made_of s k edit first now is done more made e =
     let same : ◌≡◌ {A = Result (SourceParts × List Pair) Rule} (Ok (now.source, now.pairs)) (Ok made) = sym done ∙ ap (λ (d : Draft). edited d.source d.pairs edit) is ∙ e in
     let pair : ◌≡◌ {A = SourceParts × List Pair} (now.source, now.pairs) made = cc in
-    let entries : now.entries ≡ edited_entries edit = more ∙ ap (λ (d : Draft). d.entries ++ edited_entries edit) is in
-    λ j. record { source = (pair j).0; pairs = (pair j).1; entries = entries j }
+    let keys : now.keys ≡ named edit = more ∙ ap (λ (d : Draft). d.keys ++ named edit) is in
+    λ j. record { source = (pair j).0; pairs = (pair j).1; keys = keys j }
 
 -- ---- edits in a batch
 
@@ -78,7 +78,7 @@ single_drafts s k batches.Unedited new edit un opens = record {
 } where
   made : (was : Draft) → open_draft s k batches.Unedited ≡ Some was → Drafts {T = Unit {0}} was edit (Ok tt) (draft_of_edit edit opens.0)
   made was e =
-      let first : ◌≡◌ {A = Draft} (record { source = s; pairs = k; entries = [] }) was = cc in
+      let first : ◌≡◌ {A = Draft} (record { source = s; pairs = k; keys = [] }) was = cc in
       subst (λ d. Drafts {T = Unit {0}} d edit (Ok tt) (draft_of_edit edit opens.0)) first (opens.1, refl)
 
 -- an edit that is made once the first was made on copies
@@ -89,7 +89,7 @@ drafts_again s k old mid new edit r same h = record { is_open = h.is_open; draft
 drafts-took : {T : Type 0} (old : SessionState) (was now : Draft) (edit : Edit) (r : Result T Cause) → Drafts was edit r now
     → Took (record old { batch = Some was }) (edit_in (Some was) (record old { batch = Some was }) edit) true (record old { batch = Some was }) r (record old { batch = Some now })
 drafts-took old was now edit (Ok done) h =
-    rw h.0 (refl, ap (λ (es : List EntryEdit). record old { batch = Some (record { source = now.source; pairs = now.pairs; entries = es }) }) h.1)
+    rw h.0 (refl, ap (λ (ks : List Key). record old { batch = Some (record { source = now.source; pairs = now.pairs; keys = ks }) }) h.1)
 drafts-took old was now edit (Err (causes.Rule rule)) h = rw h.0 (refl, refl, ap (λ (d : Draft). record old { batch = Some d }) h.1)
 drafts-took old was now edit (Err (causes.Fault fault)) h = absurd h
 drafts-took old was now edit (Err causes.Memory) h = (refl, ap (λ (d : Draft). record old { batch = Some d }) h)
@@ -152,7 +152,7 @@ module _ {T : Type 0} (d : Draft) (old mid new : SessionView) (r : Result T Caus
   pub commit_reruns : RerunsByTest (edition old.state commands.Commit) old r new
   commit_reruns =
       subst (λ e. RerunsByTest e old r new) (sym (ap (λ b. edition_in b old.state commands.Commit) is))
-      (batch_reruns (record { keys = keys d.entries; source = d.source }) old mid new r (sym (ap (λ (s : SessionState). s.source) state)) (sym runs-kept) (sym count) h.runs)
+      (batch_reruns (record { keys = d.keys; source = d.source }) old mid new r (sym (ap (λ (s : SessionState). s.source) state)) (sym runs-kept) (sym count) h.runs)
 
 -- ---- a commit of one edit
 
@@ -167,12 +167,11 @@ module _ (edit : Edit) (made : SourceParts × List Pair) (old new : SessionView)
   single_taken T r h = subst (λ (p : Performed SessionState). Took old.state p true old.state r new.state) single-outcome h
 
   pub single_reruns : (T : Type 0) (r : Result T Cause) → RerunsByTest (edition old.state (commands.Edit edit)) old r new
-      → RerunsByTest (Some (record { keys = keys (edited_entries edit); source = made.0 })) old r new
+      → RerunsByTest (Some (record { keys = named edit; source = made.0 })) old r new
   single_reruns T r h =
       subst (λ o. RerunsByTest o old r new)
       (ap (λ b. edition_in b old.state (commands.Edit edit)) none
-      ∙ ap (λ (r : Result (SourceParts × List Pair) Rule). option_map (λ made. record { keys = named edit; source = made.0 }) (result_ok r)) e
-      ∙ ap (λ ks. Some (record { keys = ks; source = made.0 })) (sym (entry-keys edit))) h
+      ∙ ap (λ (r : Result (SourceParts × List Pair) Rule). option_map (λ made. record { keys = named edit; source = made.0 }) (result_ok r)) e) h
 
 wanting : (old new : SessionState) (made : SourceParts × List Pair) (check : Result (Unit {0}) Fault) (cause : Cause) → old.batch ≡ None
     → Took {T = Unit {0}} old (judged old made check) true old (Err cause) new → new ≡ old
@@ -220,12 +219,12 @@ single_refused edit made old new cause given kept none e takes reruns told = rec
         (refl, wanting old.state new.state made (source_check made.0) cause none was)
   ]
 
-  spent : RerunsByTest {T = Unit {0}} (Some (record { keys = keys (edited_entries edit); source = made.0 })) old (Err given) new
+  spent : RerunsByTest {T = Unit {0}} (Some (record { keys = named edit; source = made.0 })) old (Err given) new
   spent = single_reruns edit made old new none e (Unit {0}) (Err cause) reruns
 
 -- ---- a session in which a batch is opened, edited or closed
 
 pub begins_none : (old : SessionState) → is_some old.batch ≡ false
-    → TakesUnnoted {T = Unit {0}} old commands.Begin (Ok tt) (record old { batch = Some (record { source = old.source; pairs = old.pairs; entries = [] }) })
+    → TakesUnnoted {T = Unit {0}} old commands.Begin (Ok tt) (record old { batch = Some (record { source = old.source; pairs = old.pairs; keys = [] }) })
 unfolding outcome
 begins_none old e = let none = none-of old.batch e in rw none (refl, refl)

@@ -17,7 +17,9 @@ use Rattle.t1_source.proofs.SourceAgainLaws.{source_again}
 use Rattle.t1_source.proofs.WellFormedEditedLaws.{edited_pairs, edited_well_formed}
 use Rattle.t1_source.proofs.WellFormedSourceLaws.{source_well_formed}
 use Rattle.t1_font.specs.SourceChecks.{source_check}
-use Rattle.t1_held.specs.Batch.{Draft, EntryEdit, edited_entries}
+use Rattle.t1_run.specs.Run.{Key}
+use Rattle.t1_cache.specs.EditKeys.{named}
+use Rattle.t1_held.specs.Batch.{Draft}
 use Rattle.t1_held.proofs.HeldLaws.{counts_checked}
 use Rattle.t1_commands.specs.declared.command.SessionCommand.{SessionCommand}
 use Rattle.t1_commands.specs.declared.command.SessionCommand.TheVariants as commands
@@ -86,13 +88,13 @@ taken-faultless : (s : SessionState) (r : Result (SourceParts × List Pair) Rule
 taken-faultless s (Ok made) h = judged-faultless s made (source_check made.0) refl h
 taken-faultless s (Err rule) h = h
 
-drafted-faultless : (s : SessionState) (entries : List EntryEdit) (r : Result (SourceParts × List Pair) Rule) → IsFaultless s → IsFaultless (drafted s entries r).next
-drafted-faultless s entries (Ok made) h = h
-drafted-faultless s entries (Err rule) h = h
+drafted-faultless : (s : SessionState) (keys : List Key) (r : Result (SourceParts × List Pair) Rule) → IsFaultless s → IsFaultless (drafted s keys r).next
+drafted-faultless s keys (Ok made) h = h
+drafted-faultless s keys (Err rule) h = h
 
 edit-faultless : (b : Option Draft) (s : SessionState) (edit : Edit) → IsFaultless s → IsFaultless (edit_in b s edit).next
 edit-faultless None s edit h = taken-faultless s (edited s.source s.pairs edit) h
-edit-faultless (Some d) s edit h = drafted-faultless s (d.entries ++ edited_entries edit) (edited d.source d.pairs edit) h
+edit-faultless (Some d) s edit h = drafted-faultless s (d.keys ++ named edit) (edited d.source d.pairs edit) h
 
 begin-faultless : (b : Option Draft) (s : SessionState) → IsFaultless s → IsFaultless (begin_in b s).next
 begin-faultless None s h = h
@@ -158,14 +160,14 @@ taken-readable : (s : SessionState) (edit : Edit) (r : Result (SourceParts × Li
 taken-readable s edit (Ok made) e h = judged-readable s made (source_check made.0) refl (edit-made s.source s.pairs edit made e h.made) h
 taken-readable s edit (Err rule) e h = h
 
-drafted-readable : (s : SessionState) (d : Draft) (entries : List EntryEdit) (edit : Edit) (r : Result (SourceParts × List Pair) Rule) → edited d.source d.pairs edit ≡ r
-    → AreMade d.source d.pairs → IsReadable s → IsReadable (drafted s entries r).next
-drafted-readable s d entries edit (Ok made) e m h = record { faultless = h.faultless; made = h.made; draft = edit-made d.source d.pairs edit made e m }
-drafted-readable s d entries edit (Err rule) e m h = h
+drafted-readable : (s : SessionState) (d : Draft) (keys : List Key) (edit : Edit) (r : Result (SourceParts × List Pair) Rule) → edited d.source d.pairs edit ≡ r
+    → AreMade d.source d.pairs → IsReadable s → IsReadable (drafted s keys r).next
+drafted-readable s d keys edit (Ok made) e m h = record { faultless = h.faultless; made = h.made; draft = edit-made d.source d.pairs edit made e m }
+drafted-readable s d keys edit (Err rule) e m h = h
 
 edit-readable : (b : Option Draft) (s : SessionState) (edit : Edit) → IsDraftMade b → IsReadable s → IsReadable (edit_in b s edit).next
 edit-readable None s edit m h = taken-readable s edit (edited s.source s.pairs edit) refl h
-edit-readable (Some d) s edit m h = drafted-readable s d (d.entries ++ edited_entries edit) edit (edited d.source d.pairs edit) refl m h
+edit-readable (Some d) s edit m h = drafted-readable s d (d.keys ++ named edit) edit (edited d.source d.pairs edit) refl m h
 
 begin-readable : (b : Option Draft) (s : SessionState) → IsReadable s → IsReadable (begin_in b s).next
 begin-readable None s h = record { faultless = h.faultless; made = h.made; draft = h.made }

@@ -12,7 +12,9 @@ use Rattle.t1_source.specs.declared.edit.Rule.TheVariants.{E1, E4, E11, E12}
 use Rattle.t1_pairs.specs.Kerning.{pairs, kern}
 use Rattle.t1_source.specs.Editing.{edited}
 use Rattle.t1_font.specs.SourceChecks.{source_check}
-use Rattle.t1_held.specs.Batch.{Draft, EntryEdit, edited_entries}
+use Rattle.t1_run.specs.Run.{Key}
+use Rattle.t1_cache.specs.EditKeys.{named}
+use Rattle.t1_held.specs.Batch.{Draft}
 use Rattle.t1_commands.specs.declared.print.Print.{Print}
 use Rattle.t1_commands.specs.declared.print.Print.TheVariants as prints
 use Rattle.t1_commands.specs.declared.show.Show.{Show}
@@ -56,20 +58,20 @@ taken s (Err rule) = stays s (Broken rule)
 
 -- ---- batches
 
--- profile, batches: an open batch with this source, these pairs and these entries
-abbrev pub drafting : SourceParts → List Pair → List EntryEdit → Option Draft
-drafting source pairs entries = Some (record { source = source; pairs = pairs; entries = entries })
+-- profile, batches: an open batch with this source, these pairs, and these keys of entries that its edits name
+abbrev pub drafting : SourceParts → List Pair → List Key → Option Draft
+drafting source pairs keys = Some (record { source = source; pairs = pairs; keys = keys })
 
--- profile, batches: an edit in a batch is judged by the edit rules alone, on the batch's source and pairs; the entry that it
--- names is noted
-abbrev pub drafted : SessionState → List EntryEdit → Result (SourceParts × List Pair) Rule → Performed SessionState
-drafted s entries (Ok made) = record { answer = Accepted; next = record s { batch = drafting made.0 made.1 entries } }
-drafted s entries (Err rule) = stays s (Broken rule)
+-- profile, batches: an edit in a batch is judged by the edit rules alone, on the batch's source and pairs; the key of the entry that
+-- it names is noted
+abbrev pub drafted : SessionState → List Key → Result (SourceParts × List Pair) Rule → Performed SessionState
+drafted s keys (Ok made) = record { answer = Accepted; next = record s { batch = drafting made.0 made.1 keys } }
+drafted s keys (Err rule) = stays s (Broken rule)
 
 -- profile, batches: an edit goes into the batch that is open; where none is, it is judged at once
 abbrev pub edit_in : Option Draft → SessionState → Edit → Performed SessionState
 edit_in None s edit = taken s (edited s.source s.pairs edit)
-edit_in (Some d) s edit = drafted s (d.entries ++ edited_entries edit) (edited d.source d.pairs edit)
+edit_in (Some d) s edit = drafted s (d.keys ++ named edit) (edited d.source d.pairs edit)
 
 -- profile, batches: E11 where one is open already
 abbrev pub begin_in : Option Draft → SessionState → Performed SessionState

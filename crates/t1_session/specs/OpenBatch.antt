@@ -7,20 +7,21 @@ use Rattle.t1_source.specs.declared.edit.Edit.{Edit}
 use Rattle.t1_source.specs.declared.edit.Cause.{Cause}
 use Rattle.t1_source.specs.Editing.{edited}
 use Rattle.t1_source.specs.EditOutcomes.{ReportsRule}
-use Rattle.t1_held.specs.Batch.{Draft, DraftedBatch, edited_entries}
+use Rattle.t1_cache.specs.EditKeys.{named}
+use Rattle.t1_held.specs.Batch.{Draft, DraftedBatch}
 use Rattle.t1_held.specs.Drafting.{Drafts, IsDraftOf}
 use Rattle.t1_session.specs.declared.open_batch.OpenBatch.{OpenBatch}
 use Rattle.t1_session.specs.declared.open_batch.OpenBatch.TheVariants as batches
 
 -- profile, batches: a batch of one edit, which makes this source and these pairs
 abbrev pub draft_of_edit : Edit → SourceParts × List Pair → Draft
-draft_of_edit edit made = record { source = made.0; pairs = made.1; entries = edited_entries edit }
+draft_of_edit edit made = record { source = made.0; pairs = made.1; keys = named edit }
 
 -- profile, batches: the batch that is open on a source and its pairs: none; that of no edit; that of one edit; or one that has
 -- copies of its own
 abbrev pub open_draft : SourceParts → List Pair → OpenBatch → Option Draft
 open_draft s k batches.Closed = None
-open_draft s k batches.Unedited = Some (record { source = s; pairs = k; entries = [] })
+open_draft s k batches.Unedited = Some (record { source = s; pairs = k; keys = [] })
 open_draft s k (batches.Single edit near) = option_map (draft_of_edit edit) (result_ok (edited s k edit))
 open_draft s k (batches.Drafted batch) = Some batch.draft
 

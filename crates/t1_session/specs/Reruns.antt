@@ -17,7 +17,7 @@ use Rattle.t1_cache.specs.Recorded.{IsOneOf, RecordedGlyph}
 use Rattle.t1_rerun.specs.RunNumbers.{IsRunAfter}
 use Rattle.t1_commands.specs.declared.command.SessionCommand.{SessionCommand}
 use Rattle.t1_commands.specs.declared.command.SessionCommand.TheVariants as commands
-use Rattle.t1_held.specs.Batch.{Draft, keys}
+use Rattle.t1_held.specs.Batch.{Draft}
 use Rattle.t1_session.specs.State.{SessionView, SessionState}
 
 -- profile: the keys at which a source was edited, and the edited source
@@ -28,7 +28,7 @@ pub record Edition : Type 0 where
 -- profile, edits, batches: what a command edits, by the batch that is open, where one is
 abbrev pub edition_in : Option Draft → SessionState → SessionCommand → Option Edition
 edition_in None s (commands.Edit edit) = option_map (λ made. record { keys = named edit; source = made.0 }) (result_ok (edited s.source s.pairs edit))
-edition_in (Some d) s commands.Commit = Some (record { keys = keys d.entries; source = d.source })
+edition_in (Some d) s commands.Commit = Some (record { keys = d.keys; source = d.source })
 edition_in batch s c = None
 
 -- profile, edits, batches: an edit outside a batch that breaks no edit rule edits the session's source, and so does the commit

@@ -29,8 +29,9 @@
 //! - `Session`: what each call answers and leaves (`Takes`, `Took`), which runs it makes and which
 //!   records it keeps (`Reruns`, `Renews`, `Spends`), and what each print writes. What it holds is
 //!   that of its source from scratch at any time (its invariant, `IsHeld`). The batch that is open
-//!   is seen as a source and pairs with the entries that edits named (`Draft`), whether these are
-//!   the session's own, what one edit would make of them, or copies (`OpenBatch`, `open_draft`).
+//!   is seen as a source and pairs with the keys of the entries that edits named (`Draft`), whether
+//!   these are the session's own, what one edit would make of them, or copies (`OpenBatch`,
+//!   `open_draft`).
 //! - `serve`: `Serves`, by whole lists of commands; what was written by then if reading, writing or
 //!   memory failed; nothing if the source or the pairs are refused. `takes_body`: the value of the
 //!   definition of this name in `t1_commands`.

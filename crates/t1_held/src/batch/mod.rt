@@ -33,7 +33,7 @@ pub struct Batch<'a> {
 
 impl<'a> Model for Batch<'a> {
     ghost use Rattle.std.specs.Prelude.{map};
-    ghost use Rattle.t1_held.specs.Batch.{DraftedBatch, entry_edit};
+    ghost use Rattle.t1_held.specs.Batch.{DraftedBatch, entry_edit, keys};
 
     ghost Value = { DraftedBatch };
 
@@ -43,8 +43,9 @@ impl<'a> Model for Batch<'a> {
               record {
                 source = b.source;
                 pairs = b.pairs;
-                entries = map entry_edit b.edits.entries.items;
+                keys = keys (map entry_edit b.edits.entries.items);
               };
+          entries = map entry_edit b.edits.entries.items;
           beside = b.edits.beside;
         } };
 }
@@ -55,7 +56,7 @@ ghost use Rattle.std.specs.Option.{option_map, option_to_list};
 ghost use Rattle.t1_parts.specs.SourceParts.{SourceParts};
 ghost use Rattle.t1_source.specs.WellFormed.{IsWellFormed};
 ghost use Rattle.t1_rerun.specs.Renewing.{entry_key};
-ghost use Rattle.t1_held.specs.Batch.{adds, after_edit, count_begin, entry_edit};
+ghost use Rattle.t1_held.specs.Batch.{adds, after_edit, count_begin, entry_edit, keys};
 ghost use Rattle.t1_held.specs.Drafting.{Drafts, IsCountedBy, IsDraftOf};
 
 use crate::batch::entries::edited_entry;
@@ -102,7 +103,7 @@ impl<'a> Batch<'a> {
     pub fn of(alloc: Global, source: &Source<'a>, pairs: &Pairs) -> Result<Batch<'a>, AllocError>
         ensures made { IfOk result
             (λ batch.
-            batch.draft ≡ record { source = source.now; pairs = pairs.now; entries = [] }) }
+            batch.draft ≡ record { source = source.now; pairs = pairs.now; keys = [] }) }
         ensures beside { IfOk result (λ batch. batch.beside ≡ Some count_begin) }
         ensures draft { IsWellFormed source.now → IfOk result (IsDraftOf source.now) }
     {
@@ -154,7 +155,8 @@ impl<'a> Batch<'a> {
     pub fn into_parts(self) -> (Source<'a>, Pairs, BatchEdits)
         ensures source { result.0 ≡ self.entry.draft.source }
         ensures pairs { result.1 ≡ self.entry.draft.pairs }
-        ensures entries { map entry_edit result.2.entries.items ≡ self.entry.draft.entries }
+        ensures entries { map entry_edit result.2.entries.items ≡ self.entry.entries }
+        ensures keys { keys (map entry_edit result.2.entries.items) ≡ self.entry.draft.keys }
         ensures beside { result.2.beside ≡ self.entry.beside }
     {
         (self.source, self.pairs, self.edits)

@@ -1,8 +1,8 @@
 use Rattle.std.proofs.Common.{◌∙◌, ap, map, subst, sym}
 use Rattle.t1_source.proofs.EditedSourceLaws.{source_alone}
 use Rattle.t1_charstrings.specs.Beside.{IsKeptBeside}
-use Rattle.t1_held.specs.Batch.{count_begin, entry_edit, DraftedBatch}
-use Rattle.t1_held.specs.Drafting.{IsCountedBy}
+use Rattle.t1_held.specs.Batch.{count_begin, entry_edit, keys, DraftedBatch}
+use Rattle.t1_held.specs.Drafting.{IsCountedBy, IsEditedBy}
 use Rattle.t1_held.proofs.Drafting.{draft-of, drafts}
 use Rattle.t1_held.proofs.batch.Batch.edit.Goals as goal
 
@@ -22,11 +22,13 @@ returns-in_ok-commit-in-Ok-clause-counted c =
     let change = c.in_ok-change.change in
     let source = c.self.inside.source in
     let before : DraftedBatch = record {
-      draft = record { source = source; pairs = c.self.inside.pairs; entries = map entry_edit c.self.inside.edits.entries.items };
+      draft = record { source = source; pairs = c.self.inside.pairs; keys = keys (map entry_edit c.self.inside.edits.entries.items) };
+      entries = map entry_edit c.self.inside.edits.entries.items;
       beside = c.self.inside.edits.beside;
     } in
     let after : DraftedBatch = record {
-      draft = record { source = c.commit.new.self; pairs = c.commit.new.pairs; entries = map entry_edit c.note.new.entries.items };
+      draft = record { source = c.commit.new.self; pairs = c.commit.new.pairs; keys = keys (map entry_edit c.note.new.entries.items) };
+      entries = map entry_edit c.note.new.entries.items;
       beside = c.len_beside-beside.result;
     } in
     let counted : IsCountedBy before after = record {
@@ -46,7 +48,8 @@ returns-in_ok-commit-in-Ok-clause-draft c = λ s was.
           draft-of c.args.self.now.draft c.args.edit.now change source c.commit.new.self c.self.inside.pairs c.commit.new.pairs
           c.in-Ok.entry c.self.inside.edits.entries.items c.entry_with_room.new.entries.items c.note.new.entries.items
           (ap (λ (b : DraftedBatch). b.draft) c.self.view_is) c.in_ok-change.ensures.change c.in_ok-commit-in-Ok.ensures.source c.in_ok-commit-in-Ok.ensures.pairs c.in-Ok.ensures.entry
-          c.in-Ok.ensures.same c.note.ensures c.in_ok-change.ensures.serves.source s was.edited;
+          c.in-Ok.ensures.same c.note.ensures c.in_ok-change.ensures.serves.source s
+          (subst (λ (b : DraftedBatch). IsEditedBy b.entries s b.draft.source) (sym c.self.view_is) was.edited);
       beside =
           subst (λ t. IsKeptBeside s count_begin t c.len_beside-beside.result)
           (source_alone change source c.self.inside.pairs ∙ sym c.in_ok-commit-in-Ok.ensures.source)
