@@ -1,4 +1,4 @@
-"""Which functions the program reaches, by the names in its bodies."""
+"""Which functions a program or a library reaches, by the names in its bodies."""
 
 import re
 
@@ -12,7 +12,7 @@ class Calls:
     def __init__(self, sources, roots):
         self.sources, self.roots = sources, roots
         self.functions = [function for source in sources.values() for function in source.functions]
-        self.methods, self.owned, self.free = {}, {}, {}
+        self.methods, self.owned, self.free, self.below = {}, {}, {}, {}
         for function in self.functions:
             if function.owner:
                 self.methods.setdefault(function.name, []).append(function)
@@ -20,10 +20,17 @@ class Calls:
             else:
                 self.free.setdefault((function.source.crate, function.name), []).append(function)
 
-    def reached(self):
-        """All functions that `main` reaches; methods of traits of other libraries are called by what isn't read here."""
-        starts = [f for f in self.functions if f.name == "main" and f.source.module == "main"]
-        starts += [f for f in self.functions if f.trait and (f.trait, f.name) not in self.owned]
+    def of_program(self, crate):
+        """What the `main` of a crate reaches."""
+        return self.reached(f for f in self.functions if f.source.crate == crate and f.source.module == f.name == "main")
+
+    def of_library(self, crate):
+        """What the calls reach that a crate has for another language."""
+        return self.reached(f for f in self.functions if f.source.crate == crate and f.is_foreign)
+
+    def reached(self, starts):
+        """All functions that some reach; methods of traits of other libraries are called by what isn't read here."""
+        starts = [*starts, *(f for f in self.functions if f.trait and (f.trait, f.name) not in self.owned)]
         met, open_functions = set(starts), list(starts)
         while open_functions:
             for other in self.called(open_functions.pop()):
@@ -33,6 +40,12 @@ class Calls:
         return met
 
     def called(self, function):
+        """The functions that the body of one may call."""
+        if function not in self.below:
+            self.below[function] = set(self.named_in(function))
+        return self.below[function]
+
+    def named_in(self, function):
         body, source = function.body, function.source
         for name in set(METHOD.findall(body)):
             yield from self.methods.get(name, [])

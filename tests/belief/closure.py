@@ -1,14 +1,16 @@
-"""What the statements of functions stand on: definitions, and what contracts see of types."""
+"""What the statements of functions stand on: definitions, and what contracts see of types and of traits."""
 
+import hashlib
 import re
 
 from belief.definitions import bare, names_in
 
 TYPE_NAME = re.compile(r"(?<![\w.])(?:\w+::)*([A-Z]\w*)")
+GHOST_OF = re.compile(r"(?<![\w.])[A-Z]\w*\.(\w+)")
 
 
 class Closure:
-    """The definitions and types that some statements stand on; each with the one that it was first met from."""
+    """The definitions, types and ghost items that some statements stand on."""
 
     def __init__(self, specs, sources, roots):
         self.specs, self.sources, self.roots = specs, sources, roots
@@ -16,36 +18,71 @@ class Closure:
         self.by_constructor = {(d.spec.crate, d.spec.module, name): d.key
                                for d in self.definitions.values() for name in d.constructors()}
         self.types = {kind.key: kind for source in sources.values() for kind in source.types}
-        self.below = {}
+        self.ghosts, self.ghosts_by_name = self.read_ghosts()
+        self.below, self.lost = {}, {}
 
-    def of(self, starts):
-        """All that these keys stand on, they too, with what each was met from."""
-        met, open_keys = {key: None for key in starts}, list(starts)
-        while open_keys:
-            key = open_keys.pop(0)
-            for other in sorted(self.beneath(key), key=str):
-                if other not in met:
+    def read_ghosts(self):
+        """The ghost items of each `impl` of a trait of the repository, by key and by name."""
+        traits = set().union(*(source.traits for source in self.sources.values()))
+        ghosts = {ghost.key: ghost for source in self.sources.values() for ghost in source.ghosts if ghost.block.trait in traits}
+        by_name = {}
+        for ghost in ghosts.values():
+            by_name.setdefault(ghost.name, set()).add(ghost.key)
+        return ghosts, by_name
+
+    def of(self, starts, left=frozenset()):
+        """All that these keys stand on, they too, with what each was met from; without what is left out, and what is below that
+        alone."""
+        met = {key: None for key in starts if key not in left}
+        open_keys = list(met)
+        for key in open_keys:
+            for other in self.beneath(key):
+                if other not in met and other not in left:
                     met[other] = key
                     open_keys.append(other)
         return met
 
+    def item(self, key):
+        """The definition, type or ghost item of a key."""
+        return {"definition": self.definitions, "type": self.types, "ghost": self.ghosts}[key[0]][key]
+
+    def seen_in(self, crate, keys):
+        """The types and ghost items of a crate among some keys."""
+        return [item for seen in (self.types, self.ghosts) for key, item in seen.items() if key[1] == crate and key in keys]
+
+    def sum(self, keys):
+        """A number that changes where the text of one of these changes, but for blanks and comments."""
+        texts = [" ".join([*key, *self.item(key).body().split()]) for key in sorted(keys, key=str)]
+        return hashlib.sha256("\n".join(texts).encode()).hexdigest()[:12]
+
     def beneath(self, key):
-        """What a definition or a type stands on."""
+        """What a definition, a type or a ghost item stands on, in an order of its own."""
         if key not in self.below:
-            if key[0] == "definition":
-                definition = self.definitions[key]
-                spec = definition.spec
-                local = {name: (f"Rattle.{spec.crate}.specs.{spec.module}", name) for name in self.named_in(spec)}
-                self.below[key] = self.resolved(definition.names(), {**spec.imports, **local}, spec.aliases)
-            else:
-                self.below[key] = self.beneath_type(self.types[key])
+            finders = {"definition": self.beneath_definition, "type": self.beneath_type, "ghost": self.beneath_ghost}
+            found = finders[key[0]](self.item(key))
+            self.below[key] = sorted((other for other in found if self.is_there(other, key)), key=str)
         return self.below[key]
+
+    def is_there(self, key, user):
+        """Whether a key leads to something; else it is noted as lost, with what names it."""
+        there = key[0] != "definition" or key in self.definitions
+        if not there:
+            self.lost.setdefault(key, user)
+        return there
+
+    def beneath_definition(self, definition):
+        spec = definition.spec
+        local = {name: (f"Rattle.{spec.crate}.specs.{spec.module}", name) for name in self.named_in(spec)}
+        return self.resolved(definition.names(), {**spec.imports, **local}, spec.aliases)
 
     def named_in(self, spec):
         """The names that a file of specs defines."""
         for definition in spec.definitions:
             yield bare(definition.name)
             yield from definition.constructors()
+
+    def beneath_ghost(self, ghost):
+        return self.of_text(ghost.source, ghost.at, ghost.text)
 
     def beneath_type(self, kind):
         """What contracts see of a type: its view, by the fields that it names; or all its fields."""
@@ -67,16 +104,17 @@ class Closure:
         return found
 
     def of_text(self, source, at, text):
-        """What a clause or a view at a place of a source stands on."""
-        return self.resolved(names_in(text), *source.ghost_names(at))
+        """What a clause, a view or a ghost item at a place of a source stands on."""
+        found = self.resolved(names_in(text), *source.ghost_names(at))
+        return found.union(*(self.ghosts_by_name.get(name, ()) for name in GHOST_OF.findall(text)))
 
     def of_function(self, function, wanted):
         """What the clauses of a function stand on that name one of these words, and what it asks for."""
         found = self.types_in(function.source, function.signature)
-        for kind, name, text in function.clauses:
-            if kind == "requires" or not wanted or wanted & (names_in(text) | {name}):
-                found |= self.of_text(function.source, function.at, text) | self.types_in(function.source, text)
-        return found
+        for clause in function.clauses:
+            if clause.kind == "requires" or not wanted or wanted & said_in(clause):
+                found |= self.of_text(function.source, function.at, clause.text) | self.types_in(function.source, clause.text)
+        return {key for key in found if self.is_there(key, function.key)}
 
     def resolved(self, names, imports, aliases):
         found = set()
@@ -95,20 +133,18 @@ class Closure:
         if crate not in self.roots:
             return set()
         if rest[0] in ("declared", "contracts"):
-            return self.declared(crate, [part for part in rest[1:] if part != "TheVariants"], name)
-        spec = self.specs[crate, rest[0]]
-        if name in spec.passed_on:
+            return self.declared(crate, [part for part in rest[1:] if part != "TheVariants"])
+        spec = self.specs.get((crate, rest[0]))
+        if spec and name in spec.passed_on:
             return self.at_path(*spec.passed_on[name])
         key = ("definition", crate, rest[0], name)
         return {self.by_constructor.get((crate, rest[0], name), key)}
 
-    def declared(self, crate, path, name):
-        """The type of the code by its module in `declared`."""
+    def declared(self, crate, path):
+        """The type of the code by its module in `declared`; a key that leads nowhere where there is none."""
         module, kind = "::".join(path[:-1]), path[-1]
         keys = {key for key in self.types if key[1] == crate and key[3] == kind and key[2] in (module, module or "lib")}
-        if not keys:
-            raise KeyError(f"no type {kind} in {crate}::{module} for {name}")
-        return keys
+        return keys or {("definition", crate, "declared", kind)}
 
     def types_in(self, source, text):
         """The types of the repository that a signature or a field names."""
@@ -125,3 +161,8 @@ class Closure:
         crate = path[0] if path[0] in self.roots else source.crate
         named = {key for key in self.types if key[3] == path[-1]}
         return {key for key in named if key[1] == crate} or (named if crate == path[0] else set())
+
+
+def said_in(clause):
+    """The words of a clause: its name, and the names in its text."""
+    return names_in(clause.text) | {clause.name}

@@ -1,13 +1,16 @@
 """The definitions of the crates' specs, and the names that each stands on."""
 
+import functools
 import glob
 import os
 import re
 
-ITEM = re.compile(r"^( *)(?:abbrev pub|unfoldable pub|pub record|pub data) (\S+)(.*)")
+# An item is seen with `pub` and without; `record` without it also makes a value, whose line doesn't end so.
+ITEM = re.compile(r"^( *)(?:(?:abbrev|unfoldable)(?: pub)?|pub (?:record|data)|(?:record|data)(?= .* where$)) (\S+)(.*)")
 USE = re.compile(r"^(?:pub )?use (Rattle\.\S+?)(?:\.\{(.*)\}| as (\S+))$")
-PUBLIC_USE = re.compile(r"^pub use (Rattle\.\S+?)\.\{(.*)\}$")
 MODULE = re.compile(r"^module _ (.*) where$")
+# What else stands in a file of specs: how operators bind, and names of the toolchain's own.
+OTHER = re.compile(r"^\s*(?:--.*|infix[lr]? .*|use .*)?$")
 STRING = re.compile(r'"(?:\\.|[^"\\])*"')
 WORD = re.compile(r"[^\s(){}\[\];,:◌]+")
 TAGS = ("profile", "Type 1 Font Format", "AFM 4.1", "ASCII", "Technical Note 5040", "PostScript Language Reference")
@@ -30,27 +33,38 @@ class Definition:
             return "profile"
         return "standard" if head.startswith(TAGS) else None
 
+    def place(self):
+        return f"{self.spec.place()}:{self.line}: {self.name}"
+
+    def body(self):
+        """Its text without comments, and what stands around it."""
+        return self.parameters + "\n" + "\n".join(re.sub(r"--.*", "", line) for line in self.text)
+
     def names(self):
         """The names that stand in it; one that is a variable there counts too, where a definition has the same name."""
-        text = STRING.sub(" ", "\n".join(re.sub(r"--.*", "", line) for line in self.text))
-        return (names_in(text) | names_in(self.parameters)) - {bare(self.name)}
+        return names_in(STRING.sub(" ", self.body())) - {bare(self.name)}
 
     def constructors(self):
         """The constructors of a `data` item."""
-        if not self.text[0].lstrip().startswith("pub data"):
+        if not re.match(r" *(?:pub )?data ", self.text[0]):
             return []
         return re.findall(r"^ +([A-Z]\w*) :", "\n".join(self.text[1:]), re.M)
+
+    def lines(self):
+        """How many lines it has, with its comment."""
+        return len(self.text) + len(self.comment)
 
 
 class Spec:
     """A file of specs: its definitions in order, and where the names come from that it uses."""
 
-    def __init__(self, path, crate, module):
-        self.path, self.crate, self.module = path, crate, module
-        self.imports, self.aliases, self.passed_on, self.definitions = {}, {}, {}, []
-        with open(path, encoding="utf-8") as file:
-            self.lines = file.read().split("\n")
+    def __init__(self, crate, module, text):
+        self.crate, self.module, self.lines = crate, module, text.split("\n")
+        self.imports, self.aliases, self.passed_on, self.definitions, self.unread = {}, {}, {}, [], []
         self.read()
+
+    def place(self):
+        return f"crates/{self.crate}/specs/{self.module}.antt"
 
     def read(self):
         comment, parameters, at = [], "", 0
@@ -63,15 +77,22 @@ class Spec:
                 self.definitions.append(Definition(self, at + 1, item[2], comment, self.lines[at:end], around))
                 comment, at = [], end
                 continue
-            used, module = USE.match(line), MODULE.match(line)
-            if used:
-                add_use(used, self.imports, self.aliases)
-                if line.startswith("pub use"):
-                    add_use(used, self.passed_on, {})
+            self.read_other(at + 1, line)
+            module = MODULE.match(line)
             if module:
                 parameters = module[1]
             comment = comment + [line.strip()[3:]] if line.lstrip().startswith("-- ") else []
             at += 1
+
+    def read_other(self, number, line):
+        """A line that is of no item."""
+        used = USE.match(line)
+        if used:
+            add_use(used, self.imports, self.aliases)
+            if line.startswith("pub use"):
+                add_use(used, self.passed_on, {})
+        elif not OTHER.match(line) and not MODULE.match(line):
+            self.unread.append(f"{self.place()}:{number}: what this line defines isn't read: {line.strip()}")
 
     def end_of(self, at, indent):
         """The number of the line after an item: up to a blank line or the next item."""
@@ -106,6 +127,12 @@ def names_in(text):
     return found | {">>="} if {"do", "←"} & found else found
 
 
+@functools.lru_cache(maxsize=None)
+def spec_of(crate, module, text):
+    """A file of specs by its text; a text that was read before isn't read again."""
+    return Spec(crate, module, text)
+
+
 def read_specs(top, crates):
     """All files of specs of these crates, by crate and module."""
     found = {}
@@ -113,5 +140,6 @@ def read_specs(top, crates):
         for path in sorted(glob.glob(os.path.join(top, "crates", crate, "specs", "*.antt"))):
             module = os.path.basename(path)[: -len(".antt")]
             if module != "Lib":
-                found[crate, module] = Spec(path, crate, module)
+                with open(path, encoding="utf-8") as file:
+                    found[crate, module] = spec_of(crate, module, file.read())
     return found

@@ -1,45 +1,73 @@
-"""docs/DEFINITIONS.md: the definitions that the promises stand on, in the order to read them."""
+"""docs/DEFINITIONS.md: the definitions that the promises stand on, part by part, in the order to read them."""
 
 import os
 import textwrap
 
 WIDTH = 125
+LINES_AN_HOUR = 600
 HEAD = """\
 # What must be believed
 
-`tests/believed --write` writes this page, and `tests/believed` fails where it isn't what the sources give. Whoever believes
-these definitions, and the toolchain, believes the promises of the table in [PROVED.md](PROVED.md): the contracts that it cites
-stand on nothing else of this repository. They are in the order to read them, a file after those that it uses. A line has a
-definition's name, its tag, and the comment above it:
+`tests/believed --write` writes this page, and `tests/believed` fails where it isn't what the sources give. Whoever believes these
+definitions, and the toolchain, believes the promises of the tables in [PROVED.md](PROVED.md#in-plain-words): the clauses that they
+cite ([CLAUSES.md](CLAUSES.md)) stand on nothing else of this repository. Each part of the promises has here what it adds to the
+parts before it, each definition with its comment and its body as they stand in `specs`. The files are in the order to read them,
+each after those that it uses; a file's heading leads to it, and its `use` lines say where a name comes from.
 
-- *standard*: the comment names the public standard that says it, with the chapter;
-- *profile*: it is a choice of this project: what the standard leaves open, or what a contract sees or says of a call.
+The first words of a comment are the definition's tag: the public standard that says it, with the chapter; or `profile`, where it is
+a choice of this project: what the standard leaves open, or what a contract sees or says of a call. A definition with the tag `word`,
+of contracts within, of loops, caches and proofs, isn't here: no promise stands on one. A contract sees a type of the sources by its
+fields, or by the view that its file gives it, which stands here.
+"""
+TABLE = """\
+A part takes what it adds and some of what the parts before it added. The hours are those of what it adds, at ten lines a minute.
 
-A definition with the tag *word*, of contracts within, of loops, caches and proofs, isn't here: no promise stands on one. A
-contract sees a type of the sources by its fields, or by the view in its file (`impl Model`) where it has one.
+| part | takes definitions | lines | adds definitions | lines | in files | hours |
+|---|---|---|---|---|---|---|
 """
 
 
-def page(definitions, types, specs, crates, counts):
+def definitions_page(belief):
     """The whole page."""
-    text = [HEAD, counts + "\n"]
-    for crate in crates:
-        files = [spec for spec in in_order(specs, crate) if any(d.spec is spec for d in definitions)]
-        kinds = [kind for kind in types if kind.source.crate == crate]
-        if files or kinds:
-            text.append(f"## {crate}\n")
-        if kinds:
-            text.append(types_text(kinds) + "\n")
-        text += [file_text(spec, [d for d in definitions if d.spec is spec]) for spec in files]
+    rows = [table_row(belief, part) for part in belief.part_beliefs]
+    text = [HEAD, belief.counts() + "\n", TABLE + "\n".join(rows) + "\n"]
+    return "\n".join([*text, *(part_text(belief, part) for part in belief.part_beliefs)])
+
+
+def table_row(belief, part):
+    """How much a part takes and adds, and how long that is to read."""
+    taken, added = belief.in_reading_order(part.keys), belief.in_reading_order(part.added)
+    files = len({definition.spec for definition in added})
+    hours = lines_of(added) / LINES_AN_HOUR
+    title = f"[{part.part.title}](#{part.part.title.lower().replace(' ', '-')})"
+    return f"| {title} | {len(taken)} | {lines_of(taken)} | {len(added)} | {lines_of(added)} | {files} | {hours:.1f} |"
+
+
+def lines_of(definitions):
+    return sum(definition.lines() for definition in definitions)
+
+
+def part_text(belief, part):
+    """What a part adds, crate by crate."""
+    text = [f"## {part.part.title}\n"]
+    if part.part.left:
+        names = ", ".join(f"`{name}`" for name in part.part.left)
+        text.append(wrapped(f"What {names} says stands under [{part.part.later}](#{part.part.later.lower()}).") + "\n")
+    for crate in belief.crates:
+        seen = belief.closure.seen_in(crate, part.added)
+        files = [spec for spec in in_order(belief.specs, crate) if any(d.key in part.added for d in spec.definitions)]
+        if seen or files:
+            text.append(f"### {crate}\n")
+        text += [seen_text(seen)] if seen else []
+        text += [file_text(spec, [d for d in spec.definitions if d.key in part.added]) for spec in files]
     return "\n".join(text)
 
 
 def file_text(spec, definitions):
     """A file's heading, with its own comment, and its definitions in their order."""
-    name = os.path.basename(spec.path)
+    name = os.path.basename(spec.place())
     about = " ".join(line[3:] for line in spec.lines[:head_end(spec.lines)])
-    heading = f"### [{name}](../crates/{spec.crate}/specs/{name})\n\n{wrapped(about)}\n\n"
-    return heading + "\n".join(definition_text(d) for d in sorted(definitions, key=lambda d: d.line)) + "\n"
+    return f"#### [{name}](../{spec.place()})\n\n{wrapped(about)}\n\n```\n{bodies_text(definitions)}\n```\n"
 
 
 def head_end(lines):
@@ -47,25 +75,45 @@ def head_end(lines):
     return next(at for at, line in enumerate(lines) if not line.startswith("--"))
 
 
-def definition_text(definition):
-    """A definition's line: its name, its tag, what is said of it."""
-    comment = " ".join(definition.comment)
-    tag = "standard" if definition.tag() == "standard" else "profile"
-    said = comment if tag == "standard" else comment.partition(": ")[2] or comment
-    return wrapped(f"- `{definition.name}` (*{tag}*): {said}")
+def bodies_text(definitions):
+    """Definitions as they stand in their file, with the head of the block that they stand in."""
+    texts, around = [], ""
+    for definition in definitions:
+        if definition.parameters != around:
+            around = definition.parameters
+            texts += [f"module _ {around} where"] if around else []
+        indent = definition.text[0][:len(definition.text[0]) - len(definition.text[0].lstrip())]
+        texts.append("\n".join([*(f"{indent}-- {line}" for line in definition.comment), *definition.text]))
+    return "\n\n".join(texts)
 
 
-def types_text(kinds):
-    """The types of a crate's sources that the definitions and contracts speak of."""
-    by_fields = sorted(f"`{kind.name}`" for kind in kinds if not kind.view)
-    by_view = sorted(f"`{kind.name}`" for kind in kinds if kind.view)
-    parts = [("Types seen by their fields", by_fields), ("Types seen by a view", by_view)]
-    return wrapped(" ".join(f"{title}: {', '.join(names)}." for title, names in parts if names))
+def seen_text(seen):
+    """What contracts see of the types of a crate's sources, and the ghost items of its `impl`s."""
+    by_fields = [item for item in seen if item.key[0] == "type" and not item.view]
+    text = []
+    if by_fields:
+        links = ", ".join(f"[`{kind.name}`](../{kind.source.place()})" for kind in by_fields)
+        text.append(wrapped(f"Types seen by their fields: {links}.") + "\n")
+    views = [view_text(item) for item in seen if item not in by_fields]
+    if views:
+        text.append("What contracts see of types and of traits:\n\n```\n" + "\n\n".join(views) + "\n```\n")
+    return "\n".join(text)
+
+
+def view_text(item):
+    """The view of a type, or a ghost item, as it stands in its file."""
+    if item.key[0] == "ghost":
+        return f"-- {item.source.place()}: {item.block.head}\n{dedented(item.shown)}"
+    return "\n".join([f"-- {item.source.place()}: {item.name}", *(dedented(item.shown[name]) for name in sorted(item.shown))])
+
+
+def dedented(text):
+    first, *others = text.split("\n")
+    return "\n".join([first, *(line.removeprefix("    ") for line in others)])
 
 
 def wrapped(text):
-    return textwrap.fill(text, WIDTH, subsequent_indent="  " if text.startswith("- ") else "", break_long_words=False,
-                         break_on_hyphens=False)
+    return textwrap.fill(text, WIDTH, break_long_words=False, break_on_hyphens=False)
 
 
 def in_order(specs, crate):
