@@ -12,13 +12,14 @@ class Calls:
     def __init__(self, sources, roots):
         self.sources, self.roots = sources, roots
         self.functions = [function for source in sources.values() for function in source.functions]
-        self.methods, self.owned, self.free, self.below = {}, {}, {}, {}
+        self.methods, self.owned, self.free, self.free_anywhere, self.below = {}, {}, {}, {}, {}
         for function in self.functions:
             if function.owner:
                 self.methods.setdefault(function.name, []).append(function)
                 self.owned.setdefault((function.owner, function.name), []).append(function)
             else:
                 self.free.setdefault((function.source.crate, function.name), []).append(function)
+                self.free_anywhere.setdefault(function.name, []).append(function)
 
     def of_program(self, crate):
         """What the `main` of a crate reaches."""
@@ -69,4 +70,4 @@ class Calls:
         """The functions of a name in a crate, which may pass on that of another; in a file's own one, where it is none."""
         if crate not in self.roots:
             return self.free.get((source.crate, name), [])
-        return self.free.get((crate, name)) or [f for f in self.functions if f.name == name and not f.owner]
+        return self.free.get((crate, name)) or self.free_anywhere.get(name, [])

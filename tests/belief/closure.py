@@ -18,8 +18,11 @@ class Closure:
         self.by_constructor = {(d.spec.crate, d.spec.module, name): d.key
                                for d in self.definitions.values() for name in d.constructors()}
         self.types = {kind.key: kind for source in sources.values() for kind in source.types}
+        self.types_by_name = {}
+        for key in self.types:
+            self.types_by_name.setdefault(key[3], []).append(key)
         self.ghosts, self.ghosts_by_name = self.read_ghosts()
-        self.below, self.lost = {}, {}
+        self.below, self.texts, self.lost = {}, {}, {}
 
     def read_ghosts(self):
         """The ghost items of each `impl` of a trait of the repository, by key and by name."""
@@ -52,8 +55,14 @@ class Closure:
 
     def sum(self, keys):
         """A number that changes where the text of one of these changes, but for blanks and comments."""
-        texts = [" ".join([*key, *self.item(key).body().split()]) for key in sorted(keys, key=str)]
+        texts = sorted(self.text_of(key) for key in keys)
         return hashlib.sha256("\n".join(texts).encode()).hexdigest()[:12]
+
+    def text_of(self, key):
+        """A key and the text that it leads to, in one line."""
+        if key not in self.texts:
+            self.texts[key] = " ".join([*key, *self.item(key).body().split()])
+        return self.texts[key]
 
     def beneath(self, key):
         """What a definition, a type or a ghost item stands on, in an order of its own."""
@@ -73,7 +82,7 @@ class Closure:
     def beneath_definition(self, definition):
         spec = definition.spec
         local = {name: (f"Rattle.{spec.crate}.specs.{spec.module}", name) for name in self.named_in(spec)}
-        return self.resolved(definition.names(), {**spec.imports, **local}, spec.aliases)
+        return self.resolved(definition.names, {**spec.imports, **local}, spec.aliases)
 
     def named_in(self, spec):
         """The names that a file of specs defines."""
@@ -143,7 +152,7 @@ class Closure:
     def declared(self, crate, path):
         """The type of the code by its module in `declared`; a key that leads nowhere where there is none."""
         module, kind = "::".join(path[:-1]), path[-1]
-        keys = {key for key in self.types if key[1] == crate and key[3] == kind and key[2] in (module, module or "lib")}
+        keys = {key for key in self.types_by_name.get(kind, ()) if key[1] == crate and key[2] in (module, module or "lib")}
         return keys or {("definition", crate, "declared", kind)}
 
     def types_in(self, source, text):
@@ -159,7 +168,7 @@ class Closure:
             return local
         path = source.uses[name].split("::")
         crate = path[0] if path[0] in self.roots else source.crate
-        named = {key for key in self.types if key[3] == path[-1]}
+        named = set(self.types_by_name.get(path[-1], ()))
         return {key for key in named if key[1] == crate} or (named if crate == path[0] else set())
 
 

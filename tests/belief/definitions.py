@@ -40,6 +40,7 @@ class Definition:
         """Its text without comments, and what stands around it."""
         return self.parameters + "\n" + "\n".join(re.sub(r"--.*", "", line) for line in self.text)
 
+    @functools.cached_property
     def names(self):
         """The names that stand in it; one that is a variable there counts too, where a definition has the same name."""
         return names_in(STRING.sub(" ", self.body())) - {bare(self.name)}
@@ -65,6 +66,13 @@ class Spec:
 
     def place(self):
         return f"crates/{self.crate}/specs/{self.module}.antt"
+
+    @functools.cached_property
+    def used(self):
+        """The modules of its own crate that it uses, and perhaps itself."""
+        prefix = f"Rattle.{self.crate}.specs."
+        paths = [path for path, _ in self.imports.values()] + list(self.aliases.values())
+        return {path[len(prefix):].split(".")[0] for path in paths if path.startswith(prefix)} - {self.module}
 
     def read(self):
         comment, parameters, at = [], "", 0
@@ -131,6 +139,17 @@ def names_in(text):
 def spec_of(crate, module, text):
     """A file of specs by its text; a text that was read before isn't read again."""
     return Spec(crate, module, text)
+
+
+def in_order(specs, crate):
+    """A crate's files of specs, each after those that it uses."""
+    left = sorted(module for owner, module in specs if owner == crate)
+    ordered = []
+    while left:
+        free = [module for module in left if not specs[crate, module].used & set(left)]
+        ordered.append((free or left)[0])
+        left.remove(ordered[-1])
+    return [specs[crate, module] for module in ordered]
 
 
 def read_specs(top, crates):

@@ -32,15 +32,24 @@ class Function:
     """A function: the type or trait that it stands in, its signature, its clauses and its body."""
 
     def __init__(self, source, block, found):
-        self.source, self.at, self.is_foreign, self.name = source, found.start(), bool(found[1]), found[2]
+        self.source, self.block, self.at, self.is_foreign, self.name = source, block, found.start(), bool(found[1]), found[2]
         self.owner, self.trait = (block.owner, block.trait) if block else (None, None)
-        self.signature, self.head, self.clauses, self.body, self.end = "", "", [], "", found.end()
+        self.signature, self.head, self.clauses, self.body = "", "", [], ""
+        self.head_end = self.end = found.end()
         self.key = ("function", source.crate, source.module, self.owner, self.name)
 
     def path(self):
         owner = self.owner + "::" if self.owner else ""
         module = "laws::" if self.is_law() else ""
         return f"{self.source.crate}::{module}{owner}{self.name}"
+
+    def label(self):
+        """Its name in its file; that of a trait's call with the trait, since a type may have several of it."""
+        if not self.block:
+            return self.name
+        head = re.sub(r"^<[^<>]*> ", "", self.block.head)
+        trait, _, owner = head.partition(" for ")
+        return f"<{owner} as {trait}>::{self.name}" if owner else f"{self.owner}::{self.name}"
 
     def is_law(self):
         return self.source.module == "laws"
@@ -153,15 +162,15 @@ class Source:
     def read_function(self, found):
         """A function: its signature up to its body or its semicolon, its clauses, its body."""
         function = Function(self, self.block_at(found.start()), found)
-        at, depth, head_end = found.end(), 0, None
+        at, depth = found.end(), 0
         while True:
             part = HEAD_PART.search(self.text, at)
             function.signature += self.text[at:part.start()] + " "
             at = part.end()
             is_clause = depth == 0 and part[0] in ("requires", "ensures")
-            if depth == 0 and (is_clause or part[0] in "{;"):
-                head_end = head_end or part.start()
-                function.head = self.shown[found.start():head_end]
+            if depth == 0 and not function.head and (is_clause or part[0] in "{;"):
+                function.head_end = part.start()
+                function.head = self.shown[found.start():part.start()]
             if part[0] in "([":
                 depth += 1
             elif part[0] in ")]":
@@ -169,10 +178,8 @@ class Source:
             elif is_clause:
                 at = self.read_clause(function, part.start())
             elif depth == 0:
-                function.end = part.end()
-                if part[0] == "{":
-                    function.end = matching(self.text, part.start()) + 1
-                    function.body = self.text[part.start():function.end]
+                function.end = matching(self.text, part.start()) + 1 if part[0] == "{" else part.end()
+                function.body = self.text[part.start():function.end] if part[0] == "{" else ""
                 return function
 
     def read_clause(self, function, at):

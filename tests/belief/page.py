@@ -55,7 +55,7 @@ def part_text(belief, part):
         text.append(wrapped(f"What {names} says stands under [{part.part.later}](#{part.part.later.lower()}).") + "\n")
     for crate in belief.crates:
         seen = belief.closure.seen_in(crate, part.added)
-        files = [spec for spec in in_order(belief.specs, crate) if any(d.key in part.added for d in spec.definitions)]
+        files = [spec for spec in belief.files[crate] if any(d.key in part.added for d in spec.definitions)]
         if seen or files:
             text.append(f"### {crate}\n")
         text += [seen_text(seen)] if seen else []
@@ -115,20 +115,3 @@ def dedented(text):
 def wrapped(text):
     return textwrap.fill(text, WIDTH, break_long_words=False, break_on_hyphens=False)
 
-
-def in_order(specs, crate):
-    """A crate's files of specs, each after those that it uses."""
-    left = sorted(module for owner, module in specs if owner == crate)
-    ordered = []
-    while left:
-        free = [m for m in left if not (used_by(specs[crate, m]) - {m}) & set(left)]
-        ordered.append((free or left)[0])
-        left.remove(ordered[-1])
-    return [specs[crate, module] for module in ordered]
-
-
-def used_by(spec):
-    """The modules of its own crate that a file uses."""
-    prefix = f"Rattle.{spec.crate}.specs."
-    used = [path for path, _ in spec.imports.values()] + list(spec.aliases.values())
-    return {path[len(prefix):].split(".")[0] for path in used if path.startswith(prefix)}

@@ -53,7 +53,7 @@ BESIDE = [
     "tests/reference/check",
 ]
 # What is held of the sources alone.
-OF_SOURCES = ["tests/edits/check", "tests/believed", "tests/places", "tests/walk"]
+OF_SOURCES = ["tests/belief/check", "tests/edits/check", "tests/believed", "tests/places", "tests/walk"]
 # What judges a time, and so runs by itself.
 ALONE = ["tests/pages --times"]
 

@@ -5,10 +5,10 @@ import os
 from belief.calls import Calls
 from belief.clauses import clauses_page
 from belief.closure import Closure, said_in
-from belief.definitions import names_in, read_specs
+from belief.definitions import in_order, read_specs
 from belief.differences import differences
 from belief.functions import read_sources
-from belief.page import definitions_page, in_order
+from belief.page import definitions_page
 from belief.promises import read_parts
 
 # The program, the library for C, and the laws that neither calls; and what calls the engine as a library in Rattle.
@@ -55,6 +55,7 @@ class Belief:
         listed = read_crates(top)
         self.crates = crates_below(listed, [PROGRAM, LIBRARY, LAWS])
         self.specs = read_specs(top, self.crates)
+        self.files = {crate: in_order(self.specs, crate) for crate in self.crates}
         self.sources = read_sources(top, [*self.crates, CALLER])
         self.closure = Closure(self.specs, self.sources, self.crates)
         self.calls = Calls(self.sources, self.crates)
@@ -99,7 +100,7 @@ class Belief:
 
     def in_reading_order(self, keys):
         """The definitions among these, each file after those that it uses."""
-        return [d for crate in self.crates for spec in in_order(self.specs, crate) for d in spec.definitions if d.key in keys]
+        return [d for crate in self.crates for spec in self.files[crate] for d in spec.definitions if d.key in keys]
 
     def all_definitions(self):
         return [definition for spec in self.specs.values() for definition in spec.definitions]
