@@ -13,8 +13,8 @@ is taken out, one that says less, a premise that is put in and an argument that 
 makes the change commits and whoever reviews it reads.
 
 Below each contract stands how many definitions and types those of its clauses stand on that the promises cite, and a sum of their
-texts: a change below, which [DEFINITIONS.md](DEFINITIONS.md) shows, changes the sums of all contracts that stand on it. Blanks and
-comments don't count.
+texts: a change below, which [DEFINITIONS.md](DEFINITIONS.md) shows, changes the sums of all contracts that stand on it, and so does
+another meaning of a name of the toolchain's libraries. Blanks and comments don't count.
 """
 
 
@@ -65,7 +65,8 @@ def stands_on(belief, function, citations):
     starts = set().union(*(belief.of_citation(function.path(), citation) for citation in citations))
     keys = set(belief.closure.of(starts))
     definitions = sum(key[0] == "definition" for key in keys)
-    return f"On {definitions} definitions and {len(keys) - definitions} types; sum `{belief.closure.sum(keys)}`."
+    total = belief.closure.sum(keys, belief.closure.outside_of(function))
+    return f"On {definitions} definitions and {len(keys) - definitions} types; sum `{total}`."
 
 
 def wrapped(text):

@@ -53,16 +53,37 @@ class Closure:
         """The types and ghost items of a crate among some keys."""
         return [item for seen in (self.types, self.ghosts) for key, item in seen.items() if key[1] == crate and key in keys]
 
-    def sum(self, keys):
-        """A number that changes where the text of one of these changes, but for blanks and comments."""
+    def sum(self, keys, outside):
+        """A number that changes where the text of one of these changes, but for blanks and comments, or what is meant by a name of
+        another library in it."""
         texts = sorted(self.text_of(key) for key in keys)
-        return hashlib.sha256("\n".join(texts).encode()).hexdigest()[:12]
+        return hashlib.sha256("\n".join([*sorted(outside), *texts]).encode()).hexdigest()[:12]
 
     def text_of(self, key):
-        """A key and the text that it leads to, in one line."""
+        """A key, the text that it leads to, and the names of other libraries in it, in one line."""
         if key not in self.texts:
-            self.texts[key] = " ".join([*key, *self.item(key).body().split()])
+            item = self.item(key)
+            names = self.outside(item.names, *self.scope_of(item))
+            self.texts[key] = " ".join([*key, *item.body().split(), *sorted(names)])
         return self.texts[key]
+
+    def scope_of(self, item):
+        """What the names in a definition, a type or a ghost item are."""
+        if item.key[0] == "definition":
+            return item.spec.imports, item.spec.aliases
+        return item.source.ghost_names(item.at)
+
+    def outside(self, names, imports, aliases):
+        """The paths of the names of other libraries among some."""
+        heads = {name.partition(".")[0] for name in names}
+        paths = {f"{module}.{name}" for head in heads & set(imports) for module, name in [imports[head]]}
+        paths |= {aliases[head] for head in heads & set(aliases)}
+        return {path for path in paths if path.split(".")[1] not in self.roots}
+
+    def outside_of(self, function):
+        """The paths of the names of other libraries in the clauses of a function."""
+        names = set().union(*(names_in(clause.text) for clause in function.clauses))
+        return self.outside(names, *function.source.ghost_names(function.at))
 
     def beneath(self, key):
         """What a definition, a type or a ghost item stands on, in an order of its own."""

@@ -7,10 +7,11 @@ import re
 
 # An item is seen with `pub` and without; `record` without it also makes a value, whose line doesn't end so.
 ITEM = re.compile(r"^( *)(?:(?:abbrev|unfoldable)(?: pub)?|pub (?:record|data)|(?:record|data)(?= .* where$)) (\S+)(.*)")
+FIXITY = re.compile(r"^\s*infix[lr]? \d+ (\S+)$")
 USE = re.compile(r"^(?:pub )?use (Rattle\.\S+?)(?:\.\{(.*)\}| as (\S+))$")
 MODULE = re.compile(r"^module _ (.*) where$")
-# What else stands in a file of specs: how operators bind, and names of the toolchain's own.
-OTHER = re.compile(r"^\s*(?:--.*|infix[lr]? .*|use .*)?$")
+# What else stands in a file of specs: comments, and names of the toolchain's own.
+OTHER = re.compile(r"^\s*(?:--.*|use .*)?$")
 STRING = re.compile(r'"(?:\\.|[^"\\])*"')
 WORD = re.compile(r"[^\s(){}\[\];,:◌]+")
 TAGS = ("profile", "Type 1 Font Format", "AFM 4.1", "ASCII", "Technical Note 5040", "PostScript Language Reference")
@@ -21,7 +22,7 @@ class Definition:
 
     def __init__(self, spec, line, name, comment, text, parameters):
         self.spec, self.line, self.name, self.comment, self.text = spec, line, name, comment, text
-        self.parameters = parameters
+        self.parameters, self.fixity = parameters, spec.fixities.get(name)
         self.key = ("definition", spec.crate, spec.module, bare(name))
 
     def tag(self):
@@ -37,8 +38,9 @@ class Definition:
         return f"{self.spec.place()}:{self.line}: {self.name}"
 
     def body(self):
-        """Its text without comments, and what stands around it."""
-        return self.parameters + "\n" + "\n".join(re.sub(r"--.*", "", line) for line in self.text)
+        """Its text without comments, what stands around it, and how it binds."""
+        around = [self.parameters, self.fixity or ""]
+        return "\n".join([*around, *(re.sub(r"--.*", "", line) for line in self.text)])
 
     @functools.cached_property
     def names(self):
@@ -62,6 +64,7 @@ class Spec:
     def __init__(self, crate, module, text):
         self.crate, self.module, self.lines = crate, module, text.split("\n")
         self.imports, self.aliases, self.passed_on, self.definitions, self.unread = {}, {}, {}, [], []
+        self.fixities = {found[1]: line.strip() for line in self.lines for found in [FIXITY.match(line)] if found}
         self.read()
 
     def place(self):
@@ -99,7 +102,7 @@ class Spec:
             add_use(used, self.imports, self.aliases)
             if line.startswith("pub use"):
                 add_use(used, self.passed_on, {})
-        elif not OTHER.match(line) and not MODULE.match(line):
+        elif not any(kind.match(line) for kind in (OTHER, MODULE, FIXITY)):
             self.unread.append(f"{self.place()}:{number}: what this line defines isn't read: {line.strip()}")
 
     def end_of(self, at, indent):

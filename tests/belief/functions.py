@@ -6,7 +6,7 @@ import glob
 import os
 import re
 
-from belief.definitions import add_use
+from belief.definitions import add_use, names_in
 
 NOISE = re.compile(r'//[^\n]*|b?"(?:\\.|[^"\\])*"|b?\'(?:\\.[^\']*|[^\\\'\n])\'', re.S)
 GHOST_USE = re.compile(r"ghost use (Rattle\.[^\s;]+?)(?:\.\{([^}]*)\}| as (\w+));")
@@ -63,6 +63,15 @@ class Type:
         self.view, self.shown = None, {}
         self.key = ("type", source.crate, source.module, name)
 
+    @property
+    def at(self):
+        """Where its view stands, or anywhere."""
+        return self.view[0] if self.view else 0
+
+    @property
+    def names(self):
+        return names_in(self.view[1]) if self.view else set()
+
     def fields(self):
         """The types in it, by its fields; all of them, under no name, where it is an enum or a tuple."""
         return FIELD.findall(self.text) or [(None, self.text)]
@@ -79,6 +88,7 @@ class Ghost:
         self.source, self.block, self.name, self.text, self.shown = source, block, name, text, shown
         self.at = block.start + 1
         self.key = ("ghost", source.crate, source.module, f"{block.trait} for {block.owner}", name)
+        self.names = names_in(text)
 
     def body(self):
         return self.text

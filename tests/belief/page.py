@@ -83,7 +83,8 @@ def bodies_text(definitions):
             around = definition.parameters
             texts += [f"module _ {around} where"] if around else []
         indent = definition.text[0][:len(definition.text[0]) - len(definition.text[0].lstrip())]
-        texts.append("\n".join([*(f"{indent}-- {line}" for line in definition.comment), *definition.text]))
+        fixity = [definition.fixity] if definition.fixity else []
+        texts.append("\n".join([*fixity, *(f"{indent}-- {line}" for line in definition.comment), *definition.text]))
     return "\n\n".join(texts)
 
 

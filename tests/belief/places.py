@@ -13,9 +13,9 @@ CONST = re.compile(r"^[ ]*(?:pub(?:\([a-z]+\))? )?(?:const|static) (\w+):[^;=]*=
 ALIAS = re.compile(r"^[ ]*(?:pub(?:\([a-z]+\))? )?type (\w+)(?:<[^=]*>)? = ([^;]*);", re.M)
 PRODUCT = re.compile(r"(?<![\w.])(?:0x[\da-fA-F_]+|0b[01_]+|\d[\d_]*)(?:[ui]\w+)?(?: (?:\*|<<) (?:0x[\da-fA-F_]+|0b[01_]+|\d[\d_]*)(?:[ui]\w+)?)*")
 SHIFT = re.compile(r"(?<![\d_] )<<=? (\d+)")
-LARGEST = re.compile(r"\b[ui](?:32|64|128|size)::MAX\b|\.pow\(|(?<![\w)\]])!0\b")
+LARGEST = re.compile(r"\b[ui](?:32|64|128|size)::(?:MAX|MIN)\b|\.pow\(|(?<![\w)\]])!0\b|-\d[\d_]*(?:i\w+)? as u")
 # What stands in each line that one of these may be in.
-MAY_BE_LARGE = re.compile(r"\d\d|<<|MAX|pow|!0|[A-Z]{2}")
+MAY_BE_LARGE = re.compile(r"\d\d|<<|pow|!0|-\d|[A-Z]{2}")
 LIMIT = 1 << 20
 
 
