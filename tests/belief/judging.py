@@ -44,7 +44,7 @@ class PartBelief:
     """What a part of the promises takes, and what of it no part before takes."""
 
     def __init__(self, part, keys, before):
-        self.part, self.keys, self.added = part, keys, keys - before
+        self.part, self.keys, self.before, self.added = part, keys, before, keys - before
 
 
 class Belief:

@@ -20,10 +20,11 @@ of contracts within, of loops, caches and proofs, isn't here: no promise stands 
 fields, or by the view that its file gives it, which stands here.
 """
 TABLE = """\
-A part takes what it adds and some of what the parts before it added. The hours are those of what it adds, at ten lines a minute.
+A part takes what it adds and some of what the parts before it added; lines are counted with their comments, and hours are those of
+reading ten lines a minute.
 
-| part | takes definitions | lines | adds definitions | lines | in files | hours |
-|---|---|---|---|---|---|---|
+| part | takes | lines | adds | lines | files | hours | all up to here | lines | hours |
+|---|---|---|---|---|---|---|---|---|---|
 """
 
 
@@ -35,12 +36,19 @@ def definitions_page(belief):
 
 
 def table_row(belief, part):
-    """How much a part takes and adds, and how long that is to read."""
-    taken, added = belief.in_reading_order(part.keys), belief.in_reading_order(part.added)
+    """How much a part takes and adds, how much that is with all before it, and how long to read."""
+    taken, added, all_here = (belief.in_reading_order(keys) for keys in (part.keys, part.added, part.added | part.before))
     files = len({definition.spec for definition in added})
-    hours = lines_of(added) / LINES_AN_HOUR
     title = f"[{part.part.title}](#{part.part.title.lower().replace(' ', '-')})"
-    return f"| {title} | {len(taken)} | {lines_of(taken)} | {len(added)} | {lines_of(added)} | {files} | {hours:.1f} |"
+    return f"| {title} | {amount(taken)} | {amount(added)} | {files} | {hours(added)} | {amount(all_here)} | {hours(all_here)} |"
+
+
+def amount(definitions):
+    return f"{len(definitions)} | {lines_of(definitions)}"
+
+
+def hours(definitions):
+    return f"{lines_of(definitions) / LINES_AN_HOUR:.1f}"
 
 
 def lines_of(definitions):
