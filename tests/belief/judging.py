@@ -52,22 +52,25 @@ class Belief:
 
     def __init__(self, top):
         self.top = top
-        listed = read_crates(top)
-        self.crates = crates_below(listed, [PROGRAM, LIBRARY, LAWS])
+        self.crates = crates_below(read_crates(top), [PROGRAM, LIBRARY, LAWS])
         self.specs = read_specs(top, self.crates)
         self.files = {crate: in_order(self.specs, crate) for crate in self.crates}
         self.sources = read_sources(top, [*self.crates, CALLER])
         self.closure = Closure(self.specs, self.sources, self.crates)
-        self.calls = Calls(self.sources, self.crates)
-        self.by_program = self.calls.of_program(PROGRAM)
-        self.by_libraries = self.calls.of_library(LIBRARY) | self.calls.of_program(CALLER)
-        self.functions = {}
-        for function in self.calls.functions:
-            self.functions.setdefault(function.path(), []).append(function)
         self.parts = read_parts(os.path.join(top, PROMISES))
         self.citations = [citation for part in self.parts for citation in part.citations]
+        self.find_functions()
         self.start()
         self.divide()
+
+    def find_functions(self):
+        """Finds each function by its path, and which are reached."""
+        calls = Calls(self.sources, self.crates)
+        self.by_program = calls.of_program(PROGRAM)
+        self.by_libraries = calls.of_library(LIBRARY) | calls.of_program(CALLER)
+        self.functions = {}
+        for function in calls.functions:
+            self.functions.setdefault(function.path(), []).append(function)
 
     def start(self):
         """Finds what the citations stand on, all together."""
@@ -83,7 +86,8 @@ class Belief:
         """Finds what each part takes."""
         self.part_beliefs, before = [], set()
         for part in self.parts:
-            starts = {key for citation in part.citations for path in citation.functions for key in self.of_citation(path, citation)}
+            cited = [(path, citation) for citation in part.citations for path in citation.functions]
+            starts = {key for path, citation in cited for key in self.of_citation(path, citation)}
             left = {key for key in self.met if key[-1] in part.left}
             self.part_beliefs.append(PartBelief(part, set(self.closure.of(starts, left)), before))
             before = before | self.part_beliefs[-1].keys

@@ -11,7 +11,8 @@ from belief.functions import TYPE, USE, paths_of, read_sources
 LEFT_OUT = re.compile(r"t1_test_|t1_runs$|.*_tests$")
 CONST = re.compile(r"^[ ]*(?:pub(?:\([a-z]+\))? )?(?:const|static) (\w+):[^;=]*=", re.M)
 ALIAS = re.compile(r"^[ ]*(?:pub(?:\([a-z]+\))? )?type (\w+)(?:<[^=]*>)? = ([^;]*);", re.M)
-PRODUCT = re.compile(r"(?<![\w.])(?:0x[\da-fA-F_]+|0b[01_]+|\d[\d_]*)(?:[ui]\w+)?(?: (?:\*|<<) (?:0x[\da-fA-F_]+|0b[01_]+|\d[\d_]*)(?:[ui]\w+)?)*")
+LITERAL = r"(?:0x[\da-fA-F_]+|0b[01_]+|\d[\d_]*)(?:[ui]\w+)?"
+PRODUCT = re.compile(rf"(?<![\w.]){LITERAL}(?: (?:\*|<<) {LITERAL})*")
 SHIFT = re.compile(r"(?<![\d_] )<<=? (\d+)")
 LARGEST = re.compile(r"\b[ui](?:32|64|128|size)::(?:MAX|MIN)\b|\.pow\(|(?<![\w)\]])!0\b|-\d[\d_]*(?:i\w+)? as u")
 # What stands in each line that one of these may be in.
