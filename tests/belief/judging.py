@@ -121,6 +121,7 @@ class Belief:
         for part in self.parts:
             for citation in part.citations:
                 yield from self.citation_faults(part, citation)
+        yield from (f"no promise cites {path}" for path in self.uncited())
         yield from self.left_faults()
         for spec in self.specs.values():
             yield from spec.unread
@@ -160,6 +161,14 @@ class Belief:
         for item in citation.open_items:
             if item not in ghosts:
                 yield f"{citation.promise}: no clause of {function.path()} speaks of {item}, which is left open"
+
+    def uncited(self):
+        """The calls for C and the laws that nobody calls which no promise cites."""
+        cited = {path for citation in self.citations for path in citation.functions}
+        for path, functions in self.functions.items():
+            is_outer = any(it.is_foreign if it.source.crate == LIBRARY else it.source.crate == LAWS for it in functions)
+            if is_outer and path not in cited:
+                yield path
 
     def left_faults(self):
         """What a part leaves to a later one that doesn't take it."""
