@@ -6,6 +6,8 @@ import re
 from belief.definitions import bare, names_in
 
 TYPE_NAME = re.compile(r"(?<![\w.])(?:\w+::)*([A-Z]\w*)")
+# The module of specs by which definitions name the types of a crate's sources.
+DECLARED = "declared"
 GHOST_OF = re.compile(r"(?<![\w.])[A-Z]\w*\.(\w+)")
 
 
@@ -162,7 +164,7 @@ class Closure:
         crate, rest = parts[1], parts[3:]
         if crate not in self.roots:
             return set()
-        if rest[0] in ("declared", "contracts"):
+        if rest[0] in (DECLARED, "contracts"):
             return self.declared(crate, [part for part in rest[1:] if part != "TheVariants"])
         spec = self.specs.get((crate, rest[0]))
         if spec and name in spec.passed_on:
@@ -174,7 +176,7 @@ class Closure:
         """The type of the code by its module in `declared`; a key that leads nowhere where there is none."""
         module, kind = "::".join(path[:-1]), path[-1]
         keys = {key for key in self.types_by_name.get(kind, ()) if key[1] == crate and key[2] in (module, module or "lib")}
-        return keys or {("definition", crate, "declared", kind)}
+        return keys or {("definition", crate, DECLARED, kind)}
 
     def types_in(self, source, text):
         """The types of the repository that a signature or a field names."""

@@ -4,7 +4,7 @@ import os
 
 from belief.calls import Calls
 from belief.clauses import clauses_page
-from belief.closure import Closure, said_in
+from belief.closure import DECLARED, Closure, said_in
 from belief.definitions import in_order, read_specs
 from belief.differences import differences
 from belief.functions import read_sources
@@ -190,7 +190,8 @@ class Belief:
     def lost_faults(self):
         """The names that lead to no definition."""
         for key, user in self.closure.lost.items():
-            yield f"crates/{key[1]}/specs/{key[2]}.antt: there is no {key[-1]}, which {user[-1]} names"
+            where = f"src: there is no type {key[-1]}" if key[2] == DECLARED else f"specs/{key[2]}.antt: there is no {key[-1]}"
+            yield f"crates/{key[1]}/{where}, which {user[-1]} names"
 
     def way_to(self, key):
         """How the closure comes to a definition or a type."""
