@@ -39,7 +39,8 @@ def main(source, name, body):
 
 if __name__ == "__main__":
     if len(sys.argv) != 4:
-        sys.exit("usage: client.py SOURCE GLYPH BODY")
+        print("usage: client.py SOURCE GLYPH BODY", file=sys.stderr)
+        sys.exit(2)
     try:
         main(*sys.argv[1:])
     except (Refused, Stopped, OSError) as error:

@@ -35,7 +35,8 @@ def main(source, glyph, *bodies):
 
 
 if len(sys.argv) < 4:
-    sys.exit("usage: nudge.py SOURCE GLYPH BODY..")
+    print("usage: nudge.py SOURCE GLYPH BODY..", file=sys.stderr)
+    sys.exit(2)
 try:
     main(*sys.argv[1:])
 except (Refused, Stopped) as error:

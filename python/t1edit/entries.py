@@ -3,42 +3,58 @@
 from __future__ import annotations
 
 from collections.abc import Iterator, Mapping
-from dataclasses import dataclass, field
 from typing import Tuple
 
 from .metrics import Metrics
 from .outlines import Pen, Segment, draw
 from .queries import Queries
+from .representing import counted, said_of
+from .spelling import judge_name
 from .uses import Uses
 
 
-@dataclass(unsafe_hash=True)
 class Glyph:
     """A glyph of a font by its name, as long as the font has it."""
 
-    name: str
-    _queries: Queries = field(repr=False)
+    __slots__ = ("_name", "_queries")
+
+    def __init__(self, name: str, queries: Queries) -> None:
+        self._name = name
+        self._queries = queries
+
+    def __repr__(self) -> str:
+        return f"Glyph(name={self._name!r})"
+
+    def __eq__(self, other: object) -> bool:
+        return isinstance(other, Glyph) and (self._name, self._queries) == (other._name, other._queries)
+
+    def __hash__(self) -> int:
+        return hash((self._name, self._queries))
+
+    @property
+    def name(self) -> str:
+        return self._name
 
     @property
     def body(self) -> str:
         """Its charstring as text: numbers and commands, a line for each command. Comments aren't kept."""
-        return self._queries.glyph_body(self.name)
+        return self._queries.glyph_body(self._name)
 
     @body.setter
     def body(self, body: str) -> None:
         """Replaces the body. Where the font would have a fault then, Refused is raised, and it stays as it was."""
-        self._queries.session.edit("replace", "glyph", self.name, body=body)
+        self._queries.session.edit("replace", "glyph", self._name, body=body)
 
     @property
     def metrics(self) -> Metrics:
         """Its line in the AFM file."""
-        return self._queries.metrics(self.name)
+        return self._queries.metrics(self._name)
 
     def outline(self) -> Tuple[Segment, ...]:
         """What it draws, its parts' outlines included, exact: ('M', x, y) where a segment doesn't begin where the one before
         it ended, ('L', x, y) for a line, ('C', x, y, x, y, x, y) for a curve. Coordinates are Fractions, in character space
         units; nothing where nothing is drawn. The program runs the glyph for it."""
-        return self._queries.outline(self.name)
+        return self._queries.outline(self._name)
 
     def draw(self, pen: Pen) -> None:
         """Draws its outline with a pen that has the calls moveTo, lineTo, curveTo and closePath, as those of fontTools.
@@ -49,24 +65,39 @@ class Glyph:
     @property
     def uses(self) -> Uses:
         """The Subrs and glyphs that it stands on."""
-        return self._queries.uses(self.name)
+        return self._queries.uses(self._name)
 
 
-@dataclass(unsafe_hash=True)
 class Subr:
     """A Subr of a font by its number, as long as the font has it."""
 
-    number: int
-    _queries: Queries = field(repr=False)
+    __slots__ = ("_number", "_queries")
+
+    def __init__(self, number: int, queries: Queries) -> None:
+        self._number = number
+        self._queries = queries
+
+    def __repr__(self) -> str:
+        return f"Subr(number={self._number!r})"
+
+    def __eq__(self, other: object) -> bool:
+        return isinstance(other, Subr) and (self._number, self._queries) == (other._number, other._queries)
+
+    def __hash__(self) -> int:
+        return hash((self._number, self._queries))
+
+    @property
+    def number(self) -> int:
+        return self._number
 
     @property
     def body(self) -> str:
         """Its charstring as text, as of a glyph."""
-        return self._queries.subr_body(self.number)
+        return self._queries.subr_body(self._number)
 
     @body.setter
     def body(self, body: str) -> None:
-        self._queries.session.edit("replace", "subr", self.number, body=body)
+        self._queries.session.edit("replace", "subr", self._number, body=body)
 
 
 class Glyphs(Mapping[str, Glyph]):
@@ -76,10 +107,14 @@ class Glyphs(Mapping[str, Glyph]):
         self._queries = queries
         self._session = queries.session
 
+    def __repr__(self) -> str:
+        return said_of(self, self._session, lambda: counted(len(self), "glyph"))
+
     def __getitem__(self, name: str) -> Glyph:
         """A glyph. Raises Missing, which is a KeyError."""
+        judge_name(name)
         if name not in self:
-            raise self._session.refusal("E1", name)
+            raise self._session.missing(name)
         return Glyph(name, self._queries)
 
     def __contains__(self, name: object) -> bool:
@@ -93,11 +128,13 @@ class Glyphs(Mapping[str, Glyph]):
 
     def add(self, name: str, body: str) -> Glyph:
         """Adds a glyph after all others."""
+        judge_name(name)
         self._session.edit("add", "glyph", name, body=body)
         return Glyph(name, self._queries)
 
     def __delitem__(self, name: str) -> None:
         """Removes a glyph; codes and kerning pairs that name it stay."""
+        judge_name(name)
         self._session.edit("remove", "glyph", name)
 
 
@@ -108,10 +145,13 @@ class Subrs(Mapping[int, Subr]):
         self._queries = queries
         self._session = queries.session
 
+    def __repr__(self) -> str:
+        return said_of(self, self._session, lambda: counted(len(self), "Subr"))
+
     def __getitem__(self, number: int) -> Subr:
         """A Subr. Raises Missing, which is a KeyError."""
         if number not in self:
-            raise self._session.refusal("E1", str(number))
+            raise self._session.missing(str(number))
         return Subr(number, self._queries)
 
     def __contains__(self, number: object) -> bool:

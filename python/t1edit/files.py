@@ -30,8 +30,18 @@ def named(file: Optional[File]) -> Iterator[Optional[str]]:
 
 def save(path: Union[str, "os.PathLike[str]"], data: bytes) -> None:
     """Writes a file whole, or leaves it as it was: a draft beside it gets its name. What is no plain file, as a device or
-    a pipe, is written as it stands; of a link, the file that it leads to. A file keeps its permissions."""
-    path = os.path.realpath(path)
+    a pipe, is written as it stands; of a link, the file that it leads to. A file keeps its permissions. Where that fails,
+    the error names this path."""
+    try:
+        write(os.path.realpath(path), data)
+    except OSError as error:
+        error.filename = os.fspath(path)
+        del error.filename2
+        raise
+
+
+def write(path: str, data: bytes) -> None:
+    """Writes what stands at a path that leads over no link."""
     if os.path.exists(path) and not os.path.isfile(path):
         with open(path, "wb") as file:
             file.write(data)

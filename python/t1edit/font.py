@@ -9,6 +9,7 @@ from typing import Optional, Union
 from .entries import Glyphs, Subrs
 from .files import File, save
 from .queries import Queries
+from .representing import counted, said_of
 from .session import Session
 from .tables import Encoding, Kerning
 
@@ -17,7 +18,8 @@ FORMS = {".t1": "source", ".pfb": "pfb", ".pfa": "pfa", ".afm": "afm"}
 
 
 class Font:
-    """A Type 1 font in a session of the program t1edit. For one thread at a time.
+    """A Type 1 font in a session of the program t1edit. Threads may share it: a command waits until the one before is
+    answered, and until another thread's batch has ended.
 
         with Font("font.t1", kern="font.afm") as font:
             font.kern["A", "V"] = -92
@@ -42,6 +44,9 @@ class Font:
         self.subrs = Subrs(queries)
         self.kern = Kerning(queries)
         self.encoding = Encoding(queries)
+
+    def __repr__(self) -> str:
+        return said_of(self, self.session, self._sizes)
 
     def __enter__(self) -> Font:
         return self
@@ -83,3 +88,7 @@ class Font:
     def close(self) -> None:
         """Ends the session. Nothing is saved."""
         self.session.close()
+
+    def _sizes(self) -> str:
+        counts = {"glyph": len(self.glyphs), "Subr": len(self.subrs), "pair": len(self.kern)}
+        return ", ".join(counted(count, what) for what, count in counts.items())

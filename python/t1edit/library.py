@@ -5,7 +5,6 @@ from __future__ import annotations
 import ctypes
 import functools
 import os
-import threading
 from typing import List, Optional, Tuple
 
 from .refusals import Stopped
@@ -72,16 +71,14 @@ def cut(command: bytes) -> Tuple[bytes, bytes]:
 
 
 class Calls:
-    """A session of the library, with the calls of Pipes: whole commands are pushed, and their answers moved out.
-
-    One call at a time is made, under a lock, since ctypes lets other threads run meanwhile.
+    """A session of the library, with the calls of Pipes: whole commands are pushed, and their answers moved out. For one call
+    at a time, since ctypes lets other threads run meanwhile.
     """
 
     has_unwritten = False
 
     def __init__(self, path: str, source: str, kern: Optional[str]) -> None:
         self._library = loaded(path)
-        self._lock = threading.Lock()
         self._handle, self._length = Handle(), ctypes.c_size_t()
         self._buffer, self._room = ctypes.create_string_buffer(ROOM), ROOM
         self._owner = os.getpid()
@@ -100,26 +97,22 @@ class Calls:
 
     def push(self, data: bytes) -> None:
         """Performs a command."""
-        line, body = cut(data)
-        with self._lock:
-            if self._handle.at:
-                self._given.append(self._performed(line, body))
+        if self._handle.at:
+            self._given.append(self._performed(*cut(data)))
 
     def wait(self) -> List[Tuple[int, int]]:
         return []
 
     def move(self, ready: List[Tuple[int, int]]) -> Optional[bytes]:
         """The answers that nobody has taken; None where there is none and the session has ended."""
-        with self._lock:
-            given, self._given = b"".join(self._given), []
-            return given if given or self._handle.at else None
+        given, self._given = b"".join(self._given), []
+        return given if given or self._handle.at else None
 
     def close_input(self) -> None:
         self._close()
 
     def kill(self) -> None:
-        if self.is_ours:
-            self._close()
+        self._close()
 
     def end(self) -> Tuple[int, str]:
         self._close()
@@ -152,5 +145,6 @@ class Calls:
         return ctypes.string_at(self._buffer, min(self._length.value, self._room))
 
     def _close(self) -> None:
-        with self._lock:
+        # (in a fork the session's memory goes with the process)
+        if self.is_ours:
             self._library.t1edit_close(ctypes.byref(self._handle))

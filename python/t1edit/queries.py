@@ -11,7 +11,8 @@ from typing import Any, Callable, Dict, List, Mapping, Optional, Tuple, TypeVar,
 from .metrics import Metrics, metric_lines, metrics_of
 from .outlines import Segment, segments_of
 from .printed_source import bodies, slots
-from .session import Session, Word
+from .session import Session
+from .spelling import Word
 from .uses import Uses, use_lines, uses_of
 
 T = TypeVar("T")
@@ -50,11 +51,12 @@ class Queries:
         return body_of(self._show("subr", number))
 
     def metrics(self, name: str) -> Metrics:
-        self._forget_what_changed()
-        if self._shown_metrics == FEW:
-            return metrics_of(self._of(name, self._read("afm", metric_lines)))
-        self._shown_metrics += 1
-        return metrics_of(self._show("metrics", name).rstrip("\n"))
+        with self.session.held():
+            self._forget_what_changed()
+            if self._shown_metrics == FEW:
+                return metrics_of(self._of(name, self._read("afm", metric_lines)))
+            self._shown_metrics += 1
+            return metrics_of(self._show("metrics", name).rstrip("\n"))
 
     def outline(self, name: str) -> Tuple[Segment, ...]:
         return segments_of(self._show("outline", name))
@@ -80,7 +82,7 @@ class Queries:
 
     def _of(self, key: str, found: Mapping[str, T]) -> T:
         if key not in found:
-            raise self.session.refusal("E1", key)
+            raise self.session.missing(key)
         return found[key]
 
     def _uses(self) -> Dict[str, str]:
@@ -95,10 +97,11 @@ class Queries:
 
     def _kept_of(self, reader: Callable[[str], T], given: Callable[[], str]) -> T:
         """What a reader finds in what the session gives; it is asked again once the font has changed."""
-        self._forget_what_changed()
-        if reader not in self._kept:
-            self._kept[reader] = reader(given())
-        return cast(T, self._kept[reader])
+        with self.session.held():
+            self._forget_what_changed()
+            if reader not in self._kept:
+                self._kept[reader] = reader(given())
+            return cast(T, self._kept[reader])
 
     def _forget_what_changed(self) -> None:
         """Keeps nothing that was read before the last edit that was accepted."""

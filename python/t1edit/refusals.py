@@ -2,7 +2,7 @@
 
 from __future__ import annotations
 
-from typing import Any, Callable, NamedTuple, Optional, Tuple
+from typing import NamedTuple, Optional, Tuple
 
 
 class Error(Exception):
@@ -28,42 +28,18 @@ class Refused(Error):
     number  which word of its body that is, from 1, where a body has a fault, else None
     chain   where a glyph's run failed, the glyph and the Subrs that it had entered: ('glyph A', 'subr 4'), else ()
 
-    Of a fault, word, number and chain are asked of the session when one of them is first read. They are unknown where the session
-    has ended, or has taken or refused another edit since.
+    Of a fault, word, number and chain are unknown where the answer was taken after a later edit was sent.
     """
 
-    _ask: Optional[Callable[[], Detail]] = None
-    _detail = Detail()
-
-    def __init__(self, said: str, text: str = "", word: Optional[str] = None) -> None:
-        super().__init__(said, text, word)
+    def __init__(self, said: str, text: str = "", detail: Detail = Detail()) -> None:
+        super().__init__(said, text, detail)
         self.said = said
         self.code, _, self.place = said.partition(" ")
         self.text = text
-        self._word = word
+        self.word, self.number, self.chain = detail
 
     def __str__(self) -> str:
-        return ": ".join(part for part in (self.said, self.text, self._word) if part)
-
-    def __reduce__(self) -> Tuple[Any, ...]:
-        return (type(self), self.args, {name: it for name, it in vars(self).items() if name != "_ask"})
-
-    @property
-    def word(self) -> Optional[str]:
-        return self._asked().word if self._word is None else self._word
-
-    @property
-    def number(self) -> Optional[int]:
-        return self._asked().number
-
-    @property
-    def chain(self) -> Tuple[str, ...]:
-        return self._asked().chain
-
-    def _asked(self) -> Detail:
-        if self._ask is not None:
-            self._detail, self._ask = self._ask(), None
-        return self._detail
+        return ": ".join(part for part in (self.said, self.text, self.word) if part)
 
 
 class Missing(Refused, KeyError):
@@ -74,7 +50,7 @@ class NotSent(Refused, ValueError):
     """What a session would take for other commands, or wait for. Nothing of it was written, and it has no code."""
 
     def __init__(self, text: str, word: Optional[str] = None) -> None:
-        super().__init__("", text, word)
+        super().__init__("", text, Detail(word))
         self.args = (text, word)
 
     def __str__(self) -> str:
@@ -114,7 +90,7 @@ def detail_of(shown: str) -> Detail:
 ABSENT = ("E1", "E10")
 
 
-def refusal(said: str, text: str = "", word: Optional[str] = None) -> Refused:
+def refusal(said: str, text: str = "", detail: Detail = Detail()) -> Refused:
     """The exception of a refusal."""
     kind = Missing if said in ABSENT else Refused
-    return kind(said, text, word)
+    return kind(said, text, detail)

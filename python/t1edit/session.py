@@ -4,9 +4,11 @@ from __future__ import annotations
 
 import contextlib
 import copy
+import os
+import threading
 import warnings
 from collections import deque
-from typing import Deque, Dict, Iterator, Optional, Tuple, Union
+from typing import Any, ContextManager, Deque, Dict, Iterator, Optional, Tuple, Union
 
 from . import library
 from .answers import Answer, Answers, NoAnswer
@@ -14,9 +16,7 @@ from .files import File, named
 from .pipes import Pipes
 from .program import ending, found, titles, unreadable
 from .refusals import Detail, Error, Refused, Stopped, detail_of, refusal
-from .spelling import spelled
-
-Word = Union[str, int]
+from .spelling import Word, spelled, text_of
 
 # Of each command, which of its words breaks a rule, where only one can.
 OF_ENTRIES = {"E1": 2, "E2": 2, "E3": 2, "E4": 2}
@@ -50,17 +50,18 @@ class Reply:
 
     def result(self) -> bytes:
         """Waits for the answer: the bytes of a print or a show, and none of any other command. Raises Refused and Stopped."""
-        answer = self._session._wait_for(self)
-        if answer.line.startswith("refused "):
-            said = answer.line[len("refused ") :]
-            refused = self._session.refusal(said, guilty_word(said, self._words))
-            if said.startswith("F"):
-                refused._ask = self._detail
-            raise refused
+        with self._session.held():
+            answer = self._session._wait_for(self)
+            if answer.line.startswith("refused "):
+                said = answer.line[len("refused ") :]
+                raise self._session._refusal(said, self._detail_of(said))
         return answer.data or b""
 
-    def _detail(self) -> Detail:
-        """Where the fault is for which the command was refused, unless another edit has come since."""
+    def _detail_of(self, said: str) -> Detail:
+        """The word that broke a rule; or where the fault is for which the command was refused, unless another edit has come
+        since."""
+        if not said.startswith("F"):
+            return Detail(guilty_word(said, self._words))
         if self._session._last_edit is not self:
             return Detail()
         try:
@@ -76,7 +77,8 @@ def guilty_word(said: str, words: Tuple[str, ...]) -> Optional[str]:
 
 
 class Session:
-    """A font that takes the commands of a session, and answers each. For one thread at a time.
+    """A font that takes the commands of a session, and answers each. A thread that has a command performed waits until the
+    one before is answered, and until another thread's batch has ended.
 
         with Session("font.t1") as font:
             font.edit("kern", "A", "V", -92)
@@ -93,6 +95,9 @@ class Session:
     def __init__(self, source: File, kern: Optional[File] = None, *, program: Optional[str] = None) -> None:
         """Opens a font with the pairs of a kerning file; both are paths or bytes. Raises Refused where one has a fault."""
         self._program = found(program)
+        # what repr calls the font: its path, or how many bytes it has
+        self.name = f"{len(source)} bytes" if isinstance(source, bytes) else os.fspath(source)
+        self._lock = threading.RLock()
         self._answers = Answers()
         self._waiting: Deque[Reply] = deque()
         self._last_edit: Optional[Reply] = None
@@ -113,6 +118,9 @@ class Session:
             except BaseException:
                 self._give_up(Stopped("the session isn't open"))
                 raise
+
+    def __repr__(self) -> str:
+        return f"<Session of {self.name}>"
 
     def __enter__(self) -> Session:
         return self
@@ -135,74 +143,92 @@ class Session:
     def changes(self) -> int:
         """How often the font has changed: by an edit outside of batches, or by a batch. What is printed stays the same for as
         long. It waits for all answers that are under way."""
-        while self._waiting and self._is_at_work():
-            self._exchange()
-        return self._changes
+        with self.held():
+            while self._waiting and self._is_at_work():
+                self._exchange()
+            return self._changes
 
     def edit(self, *words: Word, body: Optional[str] = None) -> None:
         """Has a command performed, as edit('remove', 'glyph', 'A'); with a body for replace and add."""
-        self.send(*words, body=body).result()
+        self._done(*words, body=body)
 
     def print(self, what: str) -> bytes:
         """The bytes of what is printed: 'source', 'kern', 'pfb', 'pfb N' in segments of N bytes, 'pfa', 'afm', 'uses'."""
-        return self.send("print", *what.split(" ")).result()
+        return self._done("print", *what.split(" "))
 
     def show(self, what: str, *word: Word) -> bytes:
         """The bytes of what is shown of one entry: show('glyph', 'A'), show('subr', 4), show('metrics', 'A'),
         show('outline', 'A'); of the encoding: show('encoding'); or of the last edit that was refused: show('refusal')."""
-        return self.send("show", what, *word).result()
+        return self._done("show", what, *word)
 
     @contextlib.contextmanager
     def batch(self) -> Iterator[None]:
         """A batch of edits, which are judged together at its end. Where they are refused, or where an exception leaves it,
-        all are dropped. What is printed meanwhile is the font before the batch."""
-        try:
-            self.edit("begin")
-        except Error:
-            raise
-        except BaseException:  # (an interrupt; the command is on its way)
-            self._abort()
-            raise
-        try:
-            yield
-        except BaseException:
-            self._abort()
-            raise
-        self.edit("commit")
+        all are dropped. What is printed meanwhile is the font before the batch. Other threads wait for its end."""
+        with self.held():
+            try:
+                self.edit("begin")
+            except Error:
+                raise
+            except BaseException:  # (an interrupt; the command is on its way)
+                self._abort()
+                raise
+            try:
+                yield
+            except BaseException:
+                self._abort()
+                raise
+            self.edit("commit")
+
+    def held(self) -> ContextManager[Any]:
+        """Keeps other threads waiting, as long as it is entered. A fork has none of them, and may have been made while one
+        held it."""
+        return self._lock if self._pipes.is_ours else contextlib.nullcontext()
 
     def send(self, *words: Word, body: Optional[str] = None) -> Reply:
         """Writes a command, whose answer may be taken later, and in any order. Answers that come meanwhile are read, so
         that it never waits for one to be taken. Raises NotSent and Stopped."""
-        texts = tuple(str(word) for word in words)
+        texts = tuple(map(text_of, words))
         data = spelled(texts, body)
-        self._judge_open()
-        reply = Reply(self, texts)
-        if texts[0] not in WITH_DATA:
-            self._last_edit = reply
-        self._is_torn = True
-        self._waiting.append(reply)
-        self._pipes.push(data)
-        self._is_torn = False
-        while self._pipes.has_unwritten:
-            self._exchange()
+        with self.held():
+            self._judge_open()
+            reply = Reply(self, texts)
+            if texts[0] not in WITH_DATA:
+                self._last_edit = reply
+            self._is_torn = True
+            self._waiting.append(reply)
+            self._pipes.push(data)
+            self._is_torn = False
+            while self._pipes.has_unwritten:
+                self._exchange()
         return reply
 
     def close(self) -> None:
         """Ends the session, once all that was sent is performed."""
-        try:
-            while self._is_at_work() and self._pipes.has_unwritten:
-                self._exchange()
-            self._pipes.close_input()
-            while self._is_at_work():
-                self._exchange()
-        finally:
-            self._give_up(Stopped("the session is closed"))
+        with self.held():
+            try:
+                while self._is_at_work() and self._pipes.has_unwritten:
+                    self._exchange()
+                self._pipes.close_input()
+                while self._is_at_work():
+                    self._exchange()
+            finally:
+                self._give_up(Stopped("the session is closed"))
 
-    def refusal(self, said: str, word: Optional[str] = None) -> Refused:
+    def missing(self, word: str) -> Refused:
+        """The exception for what isn't there."""
+        return self._refusal("E1", Detail(word))
+
+    def _refusal(self, said: str, detail: Detail) -> Refused:
         """The exception for what was refused by this code and at this place."""
         code = said.partition(" ")[0]
         text = "there wasn't memory enough" if code == "memory" else titles(self._program).get(code, "")
-        return refusal(said, text, word)
+        return refusal(said, text, detail)
+
+    def _done(self, *words: Word, body: Optional[str] = None) -> bytes:
+        """The answer to a command, between which and the command no other one is sent."""
+        with self.held():
+            return self.send(*words, body=body).result()
 
     def _abort(self) -> None:
         """Drops the batch, where the session and its batch are still there."""

@@ -2,10 +2,14 @@
 
 from __future__ import annotations
 
+import operator
 import re
-from typing import Optional, Sequence
+from typing import Optional, Sequence, Union
 
 from .refusals import NotSent
+
+# A word of a command. A name is a str, and a number either.
+Word = Union[str, int]
 
 WITH_BODY = [("replace", "glyph"), ("replace", "subr"), ("add", "glyph"), ("add", "subr")]
 # A session's blanks: the bytes 0, 9, 12 and 32.
@@ -39,6 +43,22 @@ def spelled(words: Sequence[str], body: Optional[str] = None) -> bytes:
         return text.encode("utf-8", "surrogatepass")
 
 
+def text_of(word: Word) -> str:
+    """A word as it is written. Raises TypeError where it is neither a str nor a whole number: its repr would be a word too."""
+    if isinstance(word, str):
+        return word
+    try:
+        return str(int(operator.index(word)))
+    except TypeError:
+        raise TypeError(f"a word of a command is a str or a whole number, and not {word!r}") from None
+
+
+def judge_name(name: str) -> None:
+    """Raises TypeError where a name is no str."""
+    if not isinstance(name, str):
+        raise TypeError(f"a name is a str, and not {name!r}")
+
+
 def judge_word(word: str) -> None:
     """Refuses a word that a session would take for two, for none, or for the end of its line."""
     if not word or NOT_OF_A_WORD.search(word):
@@ -46,6 +66,8 @@ def judge_word(word: str) -> None:
 
 
 def judge_body(body: str) -> None:
-    """Refuses a body with a line that a session would take for its end."""
+    """Refuses a body with a line that a session would take for its end. Raises TypeError where it is no str."""
+    if not isinstance(body, str):
+        raise TypeError(f"a body is a str, and not {type(body).__name__}")
     if any(line.strip(BLANKS) == "." for line in re.split("[\r\n]", body)):
         raise NotSent("a body with a line '.', which would end it", ".")

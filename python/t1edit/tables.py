@@ -6,6 +6,8 @@ from collections.abc import Iterator, MutableMapping
 from typing import Tuple
 
 from .queries import Queries
+from .representing import counted, said_of
+from .spelling import judge_name
 
 Pair = Tuple[str, str]
 
@@ -18,22 +20,35 @@ class Kerning(MutableMapping[Pair, int]):
         self._session = queries.session
         self._queries = queries
 
+    def __repr__(self) -> str:
+        return said_of(self, self._session, lambda: counted(len(self), "pair"))
+
     def __getitem__(self, pair: Pair) -> int:
-        return self._queries.pairs()[pair]
+        return self._queries.pairs()[names_of(pair)]
+
+    def __contains__(self, pair: object) -> bool:
+        return pair in self._queries.pairs()
 
     def __setitem__(self, pair: Pair, value: int) -> None:
-        left, right = pair
-        self._session.edit("kern", left, right, value)
+        self._session.edit("kern", *names_of(pair), value)
 
     def __delitem__(self, pair: Pair) -> None:
-        left, right = pair
-        self._session.edit("unkern", left, right)
+        self._session.edit("unkern", *names_of(pair))
 
     def __iter__(self) -> Iterator[Pair]:
         return iter(list(self._queries.pairs()))
 
     def __len__(self) -> int:
         return len(self._queries.pairs())
+
+
+def names_of(pair: Pair) -> Pair:
+    """The names of a pair. Raises TypeError where it is none."""
+    if not isinstance(pair, tuple) or len(pair) != 2:
+        raise TypeError(f"a pair is a tuple of two names, and not {pair!r}")
+    for name in pair:
+        judge_name(name)
+    return pair
 
 
 class Encoding(MutableMapping[int, str]):
@@ -46,6 +61,9 @@ class Encoding(MutableMapping[int, str]):
         self._session = queries.session
         self._queries = queries
 
+    def __repr__(self) -> str:
+        return said_of(self, self._session, lambda: "StandardEncoding" if self.is_standard else counted(len(self), "code"))
+
     @property
     def is_standard(self) -> bool:
         """Whether it is StandardEncoding, and no array."""
@@ -55,6 +73,7 @@ class Encoding(MutableMapping[int, str]):
         return self._queries.encoding()[code]
 
     def __setitem__(self, code: int, name: str) -> None:
+        judge_name(name)
         self._session.edit("encode", code, name)
 
     def __delitem__(self, code: int) -> None:

@@ -25,6 +25,16 @@ class Glyphs(Room):
             self.assertEqual([glyph.name for glyph in font.glyphs.values()], list(font.glyphs))
             self.assertIsNone(font.glyphs.get("B"))
 
+    def test_a_name_stays(self):
+        with Font(DEMO) as font:
+            glyph, subr = font.glyphs["A"], font.subrs[4]
+            self.refused(AttributeError, setattr, glyph, "name", "V")
+            self.refused(AttributeError, setattr, subr, "number", 3)
+            self.refused(AttributeError, setattr, glyph, "bodies", BODY)
+            glyph.body, subr.body = BODY, "100 200 rlineto return"
+            self.assertEqual((font.glyphs["A"].body, font.subrs[4].body), (PRINTED, "100 200 rlineto\nreturn"))
+            self.assertEqual((glyph.name, subr.number), ("A", 4))
+
     def test_two_fonts_have_two_glyphs(self):
         with Font(DEMO) as one, Font(DEMO) as other:
             self.assertNotEqual(one.glyphs["A"], other.glyphs["A"])
@@ -103,6 +113,31 @@ class Glyphs(Room):
             font.glyphs["V"].body = "0 500 hsbw 0 0 rmoveto 4 callsubr 3 callsubr 4 callsubr closepath endchar"
             self.assertEqual(font.glyphs["V"].uses, Uses(subrs=(3, 4)))
             self.assertEqual(font.glyphs["A"].uses, Uses())
+
+
+class Shown(Room):
+    def test_open(self):
+        with Font(DEMO, b"KPX A V 5\n") as font:
+            self.assertEqual(repr(font), f"<Font of {DEMO}: 6 glyphs, 5 Subrs, 1 pair>")
+            self.assertEqual(repr(font.glyphs), f"<Glyphs of {DEMO}: 6 glyphs>")
+            self.assertEqual(repr(font.subrs), f"<Subrs of {DEMO}: 5 Subrs>")
+            self.assertEqual(repr(font.kern), f"<Kerning of {DEMO}: 1 pair>")
+            self.assertEqual(repr(font.encoding), f"<Encoding of {DEMO}: StandardEncoding>")
+            self.assertEqual(repr(font.session), f"<Session of {DEMO}>")
+            self.assertEqual(repr([font.glyphs["A"], font.subrs[4]]), "[Glyph(name='A'), Subr(number=4)]")
+            font.kern["A", "A"] = 1
+            self.assertEqual(repr(font.kern), f"<Kerning of {DEMO}: 2 pairs>")
+
+    def test_of_bytes(self):
+        source = changed(ARRAY)
+        with Font(source) as font:
+            self.assertEqual(repr(font.encoding), f"<Encoding of {len(source)} bytes: 2 codes>")
+
+    def test_closed(self):
+        with Font(DEMO) as font:
+            pass
+        for it in (font, font.glyphs, font.subrs, font.kern, font.encoding):
+            self.assertEqual(repr(it), f"<{type(it).__name__} of {DEMO}: the session is closed>")
 
 
 class Recording:
@@ -305,6 +340,20 @@ class Files(Room):
             self.assertRaises(FileNotFoundError, font.save, self.path("nosuch/a.pfb"))
         self.assertEqual(os.listdir(self.room), ["folder.pfb"])
         self.assertEqual(os.listdir(folder), [])
+
+    def test_save_names_the_file_that_it_was_asked_for(self):
+        before = os.getcwd()
+        self.addCleanup(os.chdir, before)
+        os.chdir(self.room)
+        for name in ("folder.pfb", "full"):
+            os.mkdir(name)
+        with Font(DEMO) as font:
+            for path, kind in (("nosuch/a.pfb", FileNotFoundError), ("folder.pfb", IsADirectoryError), (self.path("x/a.afm"), FileNotFoundError)):
+                error = self.refused(kind, font.save, path)
+                self.assertEqual((error.filename, error.filename2), (path, None))
+                self.assertTrue(str(error).endswith(f": {path!r}"), str(error))
+            with mock.patch("t1edit.files.os.replace", side_effect=PermissionError(13, "Permission denied", "draft", None, "target")):
+                self.assertEqual(str(self.refused(PermissionError, font.save, "a.t1")), "[Errno 13] Permission denied: 'a.t1'")
 
     def test_a_saved_source_opens_as_the_same_font(self):
         path = self.path("font.t1")

@@ -137,7 +137,7 @@ class Saying(Room):
         with Font(DEMO) as font:
             refused = self.refused(Refused, setattr, font.glyphs["A"], "body", "10 600 hsbw 1 0 div hmoveto endchar")
             self.assertEqual((refused.said, refused.code, refused.place), ("F38 glyph Aacute", "F38", "glyph Aacute"))
-            self.assertEqual(str(refused), "F38 glyph Aacute: division by zero")
+            self.assertEqual(str(refused), "F38 glyph Aacute: division by zero: div")
             self.assertEqual((refused.text, refused.word, refused.number), ("division by zero", "div", 6))
             self.assertEqual(refused.chain, ("glyph A",))
 
@@ -157,17 +157,19 @@ class Saying(Room):
             font.subrs[4].body = subr
             font.glyphs["A"].body = glyph
 
+    def test_what_is_known_stays_known(self):
+        with Font(DEMO) as font:
+            refused = [self.refused(Refused, setattr, font.glyphs["A"], "body", f"{at} moveto") for at in range(3)]
+            font.kern[("A", "V")] = 1
+        for it in (*refused, pickle.loads(pickle.dumps(refused[0]))):
+            self.assertEqual((it.number, str(it)), (2, "F20 glyph A: an unknown word: moveto"))
+
     def test_what_is_asked_late(self):
         with Font(DEMO) as font:
-            refused = [self.refused(Refused, setattr, font.glyphs["A"], "body", "moveto") for _ in range(3)]
-            self.assertEqual([it.number for it in refused], [None, None, 1])
-            font.kern[("A", "V")] = 1
-            late = self.refused(Refused, setattr, font.glyphs["A"], "body", "moveto")
-            font.kern[("A", "V")] = 2
-            self.assertEqual((late.word, late.chain), (None, ()))
-            last = self.refused(Refused, setattr, font.glyphs["A"], "body", "moveto")
-            self.assertIsNone(pickle.loads(pickle.dumps(last)).number)
-        self.assertIsNone(last.number)
+            late = font.session.send("replace", "glyph", "A", body="moveto")
+            font.session.send("kern", "A", "V", 1)
+            refused = self.refused(Refused, late.result)
+            self.assertEqual((refused.word, refused.number, refused.chain), (None, None, ()))
 
     def test_words_of_rules(self):
         with Font(changed()) as font:
@@ -188,9 +190,58 @@ class Saying(Room):
                 self.assertNotEqual(refused.text, "")
                 self.assertEqual(str(refused), f"{code}: {refused.text}" + (f": {word}" if word else ""))
 
+    def test_names_that_are_no_str(self):
+        with Font(DEMO, b"KPX A V 5\n") as font:
+            for name in (b"A", None, 5, True, ("A", "V")):
+                for call in (
+                    lambda: font.glyphs.add(name, BODY),
+                    lambda: font.glyphs[name],
+                    lambda: font.glyphs.get(name),
+                    lambda: font.glyphs.__delitem__(name),
+                    lambda: font.kern[name, "V"],
+                    lambda: font.kern["A", name],
+                    lambda: font.kern.__setitem__((name, "V"), 1),
+                    lambda: font.kern.__setitem__(("A", name), 1),
+                    lambda: font.kern.__delitem__((name, "V")),
+                    lambda: font.encoding.__setitem__(65, name),
+                ):
+                    with self.subTest(name=name):
+                        self.assertIn(repr(name), str(self.refused(TypeError, call)))
+                self.assertFalse(name in font.glyphs or (name, "V") in font.kern)
+            self.assertEqual((font.session.changes, dict(font.kern)), (0, {("A", "V"): 5}))
+
+    def test_pairs_that_are_none(self):
+        with Font(DEMO, b"KPX A V 5\n") as font:
+            for pair in ("AV", "A", ["A", "V"], ("A",), ("A", "V", "A"), None):
+                with self.subTest(pair=pair):
+                    self.assertIn(repr(pair), str(self.refused(TypeError, font.kern.__setitem__, pair, 1)))
+                    self.refused(TypeError, font.kern.__delitem__, pair)
+                    self.refused(TypeError, font.kern.__getitem__, pair)
+            self.assertNotIn("AV", font.kern)
+            self.assertEqual(dict(font.kern), {("A", "V"): 5})
+
+    def test_words_and_bodies_that_are_no_text(self):
+        with Font(DEMO) as font:
+            for word in (b"A", None, 1.0, ["A"]):
+                for call in (
+                    lambda: font.session.edit("remove", "glyph", word),
+                    lambda: font.session.show("glyph", word),
+                    lambda: font.session.send(word),
+                    lambda: font.kern.__setitem__(("A", "V"), word),
+                    lambda: font.encoding.__setitem__(word, "A"),
+                    lambda: font.subrs.add(word, "return"),
+                ):
+                    with self.subTest(word=word):
+                        self.assertIn(repr(word), str(self.refused(TypeError, call)))
+            for body in (b"endchar", 5, ["endchar"]):
+                self.refused(TypeError, setattr, font.glyphs["A"], "body", body)
+                self.refused(TypeError, font.glyphs.add, "B", body)
+            self.assertEqual(font.session.changes, 0)
+
     def test_copies(self):
         with Font(DEMO) as font:
             missing = self.refused(Missing, lambda: font.glyphs["B"])
+            self.assertEqual(str(missing), "E1: replace, remove or show: no such glyph or Subr: B")
             not_sent = self.refused(NotSent, font.glyphs.add, "A B", BODY)
         for error in (missing, not_sent, Refused("F1", "text"), Stopped("text", -9)):
             for again in (copy.copy(error), pickle.loads(pickle.dumps(error))):

@@ -148,6 +148,108 @@ class Interrupts(Room):
             self.assertNotEqual(os.getpgid(session.pid), os.getpgrp())
 
 
+class Threads(Room):
+    """A font that threads share: each waits for the answer to another one's command, and no session is lost."""
+
+    def on_threads(self, *calls):
+        """Has calls made at once, each on a thread of its own; what they raise."""
+        raised, begin = [], threading.Barrier(len(calls))
+
+        def made(call):
+            begin.wait()
+            try:
+                call()
+            except Exception as error:
+                raised.append(error)
+
+        threads = [threading.Thread(target=made, args=(call,)) for call in calls]
+        for thread in threads:
+            thread.start()
+        for thread in threads:
+            thread.join()
+        return raised
+
+    def test_edits(self):
+        with Font(DEMO) as font:
+            def edit(number):
+                name = font.glyphs.add(f"g{number}", BODY).name
+                for at in range(100):
+                    font.glyphs[name].body = f"10 {at} hsbw 400 hlineto {number + 1} vlineto closepath endchar"
+                    self.assertEqual(font.glyphs[name].metrics.width, at)
+
+            self.assertEqual(self.on_threads(*(lambda it=it: edit(it) for it in range(4))), [])
+            self.assertEqual(font.session.changes, 4 * 101)
+            self.assertEqual([font.glyphs[f"g{it}"].metrics.box.top for it in range(4)], [1, 2, 3, 4])
+
+    def test_refusals_and_reads(self):
+        with Font(DEMO) as font:
+            def refuse(word):
+                for _ in range(100):
+                    refused = self.refused(Refused, setattr, font.glyphs["A"], "body", f"10 600 hsbw {word} endchar")
+                    self.assertEqual((refused.word, refused.number), (word, 4))
+
+            def read():
+                for at in range(100):
+                    font.kern["A", "V"] = at
+                    self.assertEqual((font.kern["A", "V"], len(font.glyphs), font.afm()[:5]), (at, 6, b"Start"))
+
+            self.assertEqual(self.on_threads(*(lambda it=it: refuse(it) for it in ("moveto", "lineto", "x")), read), [])
+
+    def test_prints_and_their_ends(self):
+        with Session(DEMO) as session:
+            uses = session.print("uses")
+
+            def print_all():
+                for reply in [session.send("print", "uses") for _ in range(500)]:
+                    self.assertEqual(reply.result(), uses)
+
+            self.assertEqual(self.on_threads(print_all, print_all, print_all), [])
+
+    def test_a_batch_is_one_threads(self):
+        with Font(DEMO) as font:
+            began = threading.Event()
+
+            def give_up():
+                with font.batch():
+                    font.kern["A", "V"] = 1
+                    began.set()
+                    time.sleep(0.1)
+                    raise ZeroDivisionError
+
+            def edit():
+                began.wait()
+                font.kern["V", "A"] = 2
+                with font.batch():
+                    font.kern["A", "A"] = 3
+
+            self.assertEqual([type(it) for it in self.on_threads(give_up, edit)], [ZeroDivisionError])
+            self.assertEqual(dict(font.kern), {("V", "A"): 2, ("A", "A"): 3})
+
+    def test_a_close_waits(self):
+        font = Font(DEMO)
+        font.glyphs.add("B", LONG)
+        raised = self.on_threads(font.close, *[lambda: [font.afm() for _ in range(50)]] * 3)
+        self.assertEqual({str(it) for it in raised}, {"the session is closed"} if raised else set())
+
+    def test_a_fork_waits_for_no_thread(self):
+        with Session(DEMO) as session, session.held():
+            child = []
+
+            def fork():
+                child.append(os.fork())
+                if child[0] == 0:
+                    signal.signal(signal.SIGALRM, signal.SIG_DFL)
+                    signal.alarm(10)  # (which ends it, where it waits)
+                    try:
+                        self.refused(Stopped, session.print, "kern")
+                        session.close()
+                    finally:
+                        os._exit(0)
+
+            self.assertEqual(self.on_threads(fork), [])
+            self.assertEqual(os.waitpid(child[0], 0)[1], 0)
+
+
 class Ends(Room):
     def test_killed(self):
         with Font(DEMO, program=PROGRAM) as font:
