@@ -6,6 +6,10 @@
 # A glyph that can't be taken out is reported on standard error, with the code of the refusal; the others still go.
 set -eu
 
+if [ $# -eq 0 ]; then
+    sed -n '/^# usage: /s/^# //p' "$0" >&2
+    exit 2
+fi
 source=$1
 shift
 answers=$(mktemp)

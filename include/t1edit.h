@@ -93,8 +93,8 @@ uint32_t t1edit_assemble_pfa(const uint8_t *source, size_t source_len, uint8_t *
 uint32_t t1edit_measure(const uint8_t *source, size_t source_len, const uint8_t *pairs, size_t pairs_len, uint8_t *out,
                         size_t room, size_t *len);
 
-/* Judges a source and its pairs as t1edit_measure does: DONE, with nothing told, where they have an AFM file; else the first
- * fault. */
+/* Judges a source and its pairs as t1edit_measure does: DONE, with nothing told and *len as it was, where they have an AFM file;
+ * else the first fault. */
 uint32_t t1edit_check(const uint8_t *source, size_t source_len, const uint8_t *pairs, size_t pairs_len, uint8_t *out,
                       size_t room, size_t *len);
 
