@@ -6,7 +6,8 @@ usage: live.py [--port N] [--kern FILE] SOURCE
 The page has all glyphs, one of them large with its body in a text field, and a line of text that is set with the kerning. What
 is typed goes to a session of t1edit; what a session refuses is said, with the word that has the fault, and the last good
 outline stays. 'Save' writes SOURCE in its printed form, and the kerning file. What a text editor writes to SOURCE meanwhile
-is brought in. The page is served to this machine alone, until Ctrl-C is typed or the process is told to end.
+is brought in beside the edits that aren't saved; where both changed the same glyph, the page asks. The page is served to this
+machine alone, until Ctrl-C is typed or the process is told to end.
 """
 
 import argparse

@@ -12,7 +12,7 @@ from t1edit import Font, Refused
 
 from .cells import Cell, cell_of, cells_of, heights
 from .characters import characters
-from .difference import Edit, edits_between, undoing
+from .difference import Edit, Entries, changed, edits_between, entries_of, joined, undoing
 from .guilty import guilty_word
 
 # What a page is told, to be written as JSON.
@@ -33,12 +33,23 @@ class Desk:
     A call that edits gives the news for pages: the 'changed' cells, those of composites too, and the names of 'removed'
     glyphs; the 'texts' of bodies that have changed otherwise than by typing; the pairs, where one has. What is 'refused' has
     its code and place, what it means, and where in the body the word stands that has the fault. It has changed nothing.
+
+    What another program has written to the source is brought in beside what was edited here since it was read or saved. Its news
+    have what is said of the 'file': nothing where it is taken; why it is 'refused'; or what is 'asked' of the user, where an entry
+    was changed here and there.
     """
 
     def __init__(self, source: str, kern: Optional[str] = None) -> None:
         self.source, self.kern_file = source, kern
         self._lock = threading.RLock()
-        self._open(Font(source, kern))
+        self._font = Font(source, kern)
+        self._cells = {it.name: it for it in cells_of(self._font)}
+        self._parts = {name: glyph.uses.parts for name, glyph in self._font.glyphs.items()}
+        self._texts: Dict[str, str] = {}
+        self._steps: List[Step] = []
+        # the source as it was last read or saved; and what the file has, and what is asked of it
+        self._read = self._font.source()
+        self._offered: Optional[Tuple[bytes, str]] = None
 
     def close(self) -> None:
         with self._lock:
@@ -54,6 +65,7 @@ class Desk:
                 "low": low,
                 "high": high,
                 "characters": characters(self._cells),
+                "asked": self._offered and self._offered[1],
                 **self._pairs(),
                 **self._standing(),
             }
@@ -78,6 +90,8 @@ class Desk:
 
     def kern(self, left: str, right: str, value: Optional[int]) -> News:
         """Moves the right one of two glyphs by so many units, or takes their pair out."""
+        if not (value is None or isinstance(value, int)):
+            return {"refused": {"said": "", "text": f"whole numbers only, and not {value}"}}
         with self._lock:
             before = self._font.kern.get((left, right))
             if before == value:
@@ -90,13 +104,15 @@ class Desk:
             return {**self._pairs(), **self._standing()}
 
     def undo(self) -> News:
-        """Takes the last accepted change back, where there is one."""
+        """Takes the last accepted change back, where there is one. One that can't be taken back any more is passed over."""
         with self._lock:
             if not self._steps:
                 return self._standing()
-            step, cells = self._steps[-1], dict(self._cells)
-            self._perform(step.edits)
-            self._steps.pop()
+            step, cells = self._steps.pop(), dict(self._cells)
+            try:
+                perform(self._font, step.edits)
+            except Refused as refused:
+                return {**refusal(refused), **self._standing()}
             names = glyphs_of(step.edits)
             for name in names:
                 self._texts.pop(name, None)
@@ -108,47 +124,74 @@ class Desk:
         """Writes the source, and the kerning file where one was given."""
         with self._lock:
             self._font.save(self.source)
+            self._read, self._offered = self._font.source(), None
             if self.kern_file:
                 self._font.save(self.kern_file, "kern")
             return {"saved": [it for it in (self.source, self.kern_file) if it]}
 
     def bring_in(self, source: bytes) -> News:
-        """Takes what another program has written to the source: the entries that differ are edited. Where more than these has
-        changed, as a line of the header, the font is opened anew, and nothing can be undone."""
+        """Takes what another program has written to the source, but for what is asked."""
         with self._lock:
+            self._offered = None
             try:
-                with Font(source) as other:
-                    return self._become(other, source)
+                there = Font(source)
             except Refused as refused:
                 return {"file": refusal(refused)}
+            with there:
+                return self._joined(source, there)
 
-    def _become(self, other: Font, source: bytes) -> News:
-        edits, cells = edits_between(self._font, other), dict(self._cells)
+    def settle(self, keeps_here: bool) -> News:
+        """Takes what was asked: of an entry that was changed here and there, what is here is kept, or what is there taken."""
+        with self._lock:
+            if self._offered is None:
+                return self._standing()
+            source, _ = self._offered
+            self._offered = None
+            with Font(source) as there:
+                return self._joined(source, there, keeps_here)
+
+    def _joined(self, source: bytes, there: Font, keeps_here: Optional[bool] = None) -> News:
+        """Joins what is here with what is there; asks where an entry was changed in both, and nothing is said of that."""
+        with Font(self._read) as font:
+            before = entries_of(font)
+        here, found, read = entries_of(self._font), entries_of(there), there.source()
+        wanted = joined(before, here, found, bool(keeps_here))
+        both = changed(joined(before, here, found, not keeps_here), wanted)
+        if both and keeps_here is None:
+            return self._ask(source, f"changed here, and in the file: {', '.join(both)}")
+        try:
+            perform(there, edits_between(found, wanted))
+        except Refused:
+            if keeps_here is None:
+                edited = ", ".join(changed(before, here))
+                return self._ask(source, f"changed here, and doesn't fit what is in the file now: {edited}")
+            wanted = here if keeps_here else found
+            with contextlib.suppress(Refused):
+                perform(there, edits_between(found, wanted))
+        self._read = read
+        return {**self._become(there, here, wanted), "file": {}}
+
+    def _ask(self, source: bytes, question: str) -> News:
+        self._offered = source, question
+        return {"file": {"asked": question}}
+
+    def _become(self, other: Font, here: Entries, wanted: Entries) -> News:
+        """Makes the font what another one is, by edits; where more than entries differs, as a line of the header, by opening it
+        anew."""
+        edits, cells = edits_between(here, wanted), dict(self._cells)
         back, names = undoing(self._font, edits), glyphs_of(edits)
         with contextlib.suppress(Refused):  # (as where Subrs are added, and the font has had none)
-            self._perform(edits)
-        if self._font.source() != other.source():
-            pairs = self._font.session.print("kern")
+            perform(self._font, edits)
+        source = other.source()
+        is_anew = self._font.source() != source
+        if is_anew:
+            font = Font(source, self._font.session.print("kern"))
             self._font.close()
-            self._open(Font(source, pairs))
-            return {**self._news(cells, self._cells), "file": {}}
+            self._font = font
         if edits:
             self._steps.append(Step(back, {name: self._texts.pop(name, None) for name in names}))
-        self._read_again(names, touches_all(edits))
-        return {**self._news(cells, names), "file": {}}
-
-    def _open(self, font: Font) -> None:
-        self._font = font
-        self._cells = {it.name: it for it in cells_of(font)}
-        self._parts = {name: glyph.uses.parts for name, glyph in font.glyphs.items()}
-        self._texts: Dict[str, str] = {}
-        self._steps: List[Step] = []
-
-    def _perform(self, edits: Iterable[Edit]) -> None:
-        """Performs edits as a batch. Raises Refused, and has changed nothing then."""
-        with self._font.batch():
-            for words, body in edits:
-                self._font.session.edit(*words, body=body)
+        self._read_again(names, is_anew or touches_all(edits))
+        return self._news(cells, names)
 
     def _text(self, name: str) -> str:
         return self._texts[name] if name in self._texts else self._font.glyphs[name].body
@@ -186,6 +229,13 @@ class Desk:
             found = found | more
             more = {name for name, parts in self._parts.items() if name not in found and not found.isdisjoint(parts)}
         return found
+
+
+def perform(font: Font, edits: Iterable[Edit]) -> None:
+    """Performs edits as a batch. Raises Refused, and has changed nothing then."""
+    with font.batch():
+        for words, body in edits:
+            font.session.edit(*words, body=body)
 
 
 def pair_edit(left: str, right: str, value: Optional[int]) -> Tuple[object, ...]:

@@ -28,19 +28,23 @@ class Server(http.server.ThreadingHTTPServer):
     daemon_threads = True
 
     def __init__(self, desk: Desk, port: int = 0) -> None:
-        """Takes a port of the loopback, a free one without a number."""
-        super().__init__((HOST, port), Handler)
+        """Takes a port of the loopback, a free one without a number. Raises OSError where it can't be had."""
+        self._has_ended = threading.Event()
+        self._watcher = threading.Thread(target=self._watch)
         self.desk = desk
         self.calls: Dict[str, Callable[..., News]] = {
             "/edit": desk.edit,
             "/kern": desk.kern,
             "/undo": desk.undo,
             "/save": self.save,
+            "/settle": self.settle,
         }
         self._watched = Watched(desk.source)
         self._listeners: List["queue.Queue[Optional[News]]"] = []
-        self._has_ended = threading.Event()
-        self._watcher = threading.Thread(target=self._watch)
+        try:
+            super().__init__((HOST, port), Handler)
+        except (OSError, OverflowError) as error:
+            raise OSError(f"port {port}: {getattr(error, 'strerror', None) or 'it is from 0 to 65535'}") from None
         self._watcher.start()
 
     @property
@@ -49,13 +53,25 @@ class Server(http.server.ThreadingHTTPServer):
 
     def server_close(self) -> None:
         self._has_ended.set()
-        self._watcher.join()
+        if self._watcher.is_alive():
+            self._watcher.join()
         super().server_close()
 
     def save(self) -> News:
         found: List[News] = []
         is_written = self._watched.write(lambda: found.append(self.desk.save()))
         return found[0] if is_written else {"refused": {"said": "", "text": HAS_CHANGED}}
+
+    def settle(self, keeps_here: bool) -> News:
+        """Takes what was asked of the file. All pages are told."""
+        found: List[News] = []
+
+        def settled() -> bool:
+            found.append(self.desk.settle(keeps_here))
+            return self._tell(found[0])
+
+        self._watched.settle(settled)
+        return found[0]
 
     def listen(self) -> "queue.Queue[Optional[News]]":
         """A queue that gets all news of the file from now on."""
@@ -71,10 +87,14 @@ class Server(http.server.ThreadingHTTPServer):
             self._watched.look(self._bring_in)
 
     def _bring_in(self, source: bytes) -> bool:
-        news = self.desk.bring_in(source)
-        for listener in list(self._listeners):
-            listener.put(news)
-        return not news["file"]
+        return self._tell(self.desk.bring_in(source))
+
+    def _tell(self, news: News) -> bool:
+        """Tells all pages news of the file; whether it is taken."""
+        if "file" in news:
+            for listener in list(self._listeners):
+                listener.put(news)
+        return news.get("file") == {}
 
 
 class Handler(http.server.BaseHTTPRequestHandler):

@@ -25,10 +25,19 @@ class Watched:
             before, self._seen = self._seen, stamp(self.path)
             if self._seen in (None, self._judged) or self._seen != before:
                 return
+            try:
+                with open(self.path, "rb") as file:
+                    data = file.read()
+            except OSError:  # (it is looked at again)
+                return
             self._judged = self._seen
-            with open(self.path, "rb") as file:
-                data = file.read()
             if take(data):
+                self._taken = self._judged
+
+    def settle(self, call: Callable[[], bool]) -> None:
+        """Has a call decide on what was given last, which says whether it is taken now."""
+        with self._lock:
+            if call():
                 self._taken = self._judged
 
     def write(self, call: Callable[[], object]) -> bool:
