@@ -2,6 +2,12 @@
 
 const PFB = 128
 const NO_PAIRS = new Uint8Array(0)
+const LACKS_A_PART = "F45"
+// A glyph's line of the AFM file; and a composite's line of the usage table, with its base and its accent.
+const METRICS = /^C (\S+) ; WX? (\S+)(?: \S+)? ; N (\S+) ; B (\S+ \S+ \S+ \S+) ;/gm
+const PARTS = /^U (\S+) ;.* P (\S+) ; P (\S+) ;/gm
+// A call of a Subr by its number, also where hints are replaced.
+const CALL = /([0-9]+)\s+(?:1\s+3\s+callothersubr\s+pop\s+)?callsubr/g
 
 /* A number as the engine writes it, exact: 5, or 5/2. */
 function number(word) {
@@ -32,27 +38,39 @@ function isPairs(bytes) {
 }
 
 class Font {
-  /* Opens a font's file or a source. What is neither has two faults: the source's, and the file's. A source has all of its own. */
+  /* Opens a font's file or a source. What is neither has two faults: the source's, and the file's. A source has all of its own. Pairs
+   * with a fault are left out, and what is refused of them is the font's `without`. */
   static open(engine, bytes, pairs = NO_PAIRS) {
     const { source, fault } = sourceOf(engine, bytes)
-    let session = null
     try {
-      session = engine.open(source, pairs)
+      return Font.of(engine, source, pairs)
+    } catch (error) {
+      if (!(error instanceof Refused)) throw error
+      error.faults = engine.faults(source, pairs)
+      if (error.faults.length && error.faults.every(it => it[0] === "pairs")) return Object.assign(Font.of(engine, source, NO_PAIRS), { without: error })
+      if (fault && ["F1", "F2"].includes(error.code)) error.other = new Refused(fault)
+      throw error
+    }
+  }
+
+  /* Opens a source. */
+  static of(engine, source, pairs) {
+    const session = engine.open(source, pairs)
+    try {
       return new Font(session)
     } catch (error) {
-      if (session && !engine.isBroken) session.close()
-      if (fault && ["F1", "F2"].includes(error.code)) error.other = new Refused(fault)
-      error.faults = error instanceof Refused ? engine.faults(source, pairs) : []
+      if (!engine.isBroken) session.close()
       throw error
     }
   }
 
   constructor(session) {
     this.session = session
+    this.without = null
     this.glyphs = new Map()
     this.first = new Map()
     this.edited = new Set()
-    this.readMetrics()
+    this.readAll()
     if (!this.glyphs.size) throw new Refused("it has no glyphs")
     for (const it of this.glyphs.values()) this.draw(it)
     this.usual = { low: this.height(1, 5), middle: this.height(3, 50), high: this.height(3, 95) }
@@ -62,16 +80,23 @@ class Font {
   close() { this.session.close() }
 
   /* What the AFM file says: names, codes, widths, boxes, pairs. */
-  readMetrics() {
-    const afm = this.session.text("print afm"), before = this.glyphs
+  readAll() {
+    const afm = this.session.text("print afm")
     const value = key => afm.match(new RegExp(`^${key} (.*)$`, "m"))?.[1]
     this.name = value("FullName") ?? value("FontName") ?? "a font"
     this.fileName = value("FontName") ?? "font"
     this.box = value("FontBBox").split(" ").map(Number)
-    this.pairs = new Map(Array.from(afm.matchAll(/^KPX (\S+) (\S+) (\S+)$/gm), ([, left, right, by]) => [`${left} ${right}`, Number(by)]))
-    this.glyphs = new Map()
-    for (const [, code, width, name, box] of afm.matchAll(/^C (\S+) ; WX (\S+) ; N (\S+) ; B (\S+ \S+ \S+ \S+) ;/gm))
-      this.glyphs.set(name, { ...before.get(name), name, code: Number(code), width: Number(width), box: box.split(" ").map(Number) })
+    this.readPairs(afm)
+    for (const it of afm.matchAll(METRICS)) this.measure(it)
+  }
+
+  readPairs(lines) {
+    this.pairs = new Map(Array.from(lines.matchAll(/^KPX (\S+) (\S+) (\S+)$/gm), ([, left, right, by]) => [`${left} ${right}`, Number(by)]))
+  }
+
+  /* Takes what a glyph's line of the AFM file says. */
+  measure([, code, width, name, box]) {
+    this.glyphs.set(name, { ...this.glyphs.get(name), name, code: Number(code), width: Number(width), box: box.split(" ").map(Number) })
   }
 
   /* Above how many of a hundred glyphs that draw a height is, at the one side of their boxes or the other. */
@@ -108,22 +133,22 @@ class Font {
   }
 
   renewed(name) {
-    const old = new Map(this.glyphs)
-    this.readMetrics()
-    const stale = this.standingOn(name)
-    for (const it of stale) this.draw(this.glyphs.get(it))
-    return stale.filter(it => this.looks(this.glyphs.get(it)) !== this.looks(old.get(it)))
+    return this.standingOn(name).filter(it => {
+      const before = this.looks(this.glyphs.get(it))
+      this.measure([...this.session.text(`show metrics ${it}`).matchAll(METRICS)][0])
+      this.draw(this.glyphs.get(it))
+      return this.looks(this.glyphs.get(it)) !== before
+    })
   }
 
   looks({ path, width, box }) { return `${path} ${width} ${box}` }
 
   /* A glyph, and the composites that stand on it. */
   standingOn(name) {
-    const found = new Set([name])
-    const uses = this.session.text("print uses").split("\n").filter(Boolean).map(line => line.slice(2, -2).split(" ; "))
+    const found = new Set([name]), composites = [...this.session.text("print uses").matchAll(PARTS)]
     for (let size = 0; size < found.size;) {
       size = found.size
-      for (const [it, ...parts] of uses) if (parts.some(part => part.startsWith("P ") && found.has(part.slice(2)))) found.add(it)
+      for (const [, it, base, accent] of composites) if (found.has(base) || found.has(accent)) found.add(it)
     }
     return [...found]
   }
@@ -132,7 +157,7 @@ class Font {
   kern(left, right, value) {
     if (value !== null) this.session.data(`kern ${left} ${right} ${value}`)
     else if (this.pairs.has(`${left} ${right}`)) this.session.data(`unkern ${left} ${right}`)
-    this.readMetrics()
+    this.readPairs(this.session.text("print kern"))
   }
 
   /* Where the last edit that was refused has its fault: from which character of its body to which, or null where no word has it. */
@@ -145,12 +170,38 @@ class Font {
     return at && told.startsWith(`${refused.message}\n`) && where === `glyph ${name}` ? span(words[at[1] - 1]) : null
   }
 
-  /* What more is known of the fault of a body that was refused, as "hlineto?", where the library tells it. */
+  /* What more is known of the fault of a body that was refused, as "hlineto?", where the library tells it of a font that has no
+   * other glyph, and no Subr but those that the body calls. So what a composite lacks isn't told, nor a Subr that is there. */
   hint(name, body, refused) {
-    const source = textOf(this.file("source")), entry = `\n/${name} {\n`
-    const from = source.indexOf(entry) + entry.length, to = source.indexOf("\t}", from)
-    const faults = this.session.engine.faults(bytesOf(`${source.slice(0, from)}${body}\n${source.slice(to)}`), NO_PAIRS)
-    return faults.find(it => it[3] === refused.code && it[4] === `glyph ${name}`)?.[6] ?? ""
+    const subrs = this.called(body)
+    const source = ["%!", "/Encoding StandardEncoding def", "currentfile eexec", `/Subrs ${subrs.size} array`, ...Array.from(subrs, ([number, shown]) => `dup ${number} {\n${shown}} NP`),
+      "/CharStrings 1 dict dup begin", `/${name} {`, body, "} ND", "end", "mark currentfile closefile", ""].join("\n")
+    const fault = this.session.engine.faults(bytesOf(source), NO_PAIRS).find(it => it[3] === refused.code && it[4] === `glyph ${name}`)
+    const hint = fault?.[6] ?? "", subr = hint.match(/^no Subr (.*)/)?.[1]
+    return refused.code === LACKS_A_PART || subr && this.subr(subr) !== null ? "" : hint
+  }
+
+  /* The Subrs that a body calls by their numbers, and those that they call so, as they are shown. */
+  called(body) {
+    const found = new Map(), read = [body]
+    for (const text of read)
+      for (const [, number] of text.matchAll(CALL)) {
+        const shown = found.has(number) ? null : this.subr(number)
+        if (shown === null) continue
+        found.set(number, shown)
+        read.push(shown)
+      }
+    return found
+  }
+
+  /* A Subr as it is shown, or null where there is none. */
+  subr(number) {
+    try {
+      return this.session.text(`show subr ${number}`)
+    } catch (error) {
+      if (error instanceof Refused) return null
+      throw error
+    }
   }
 
   file(kind) { return this.session.data(`print ${kind}`) }

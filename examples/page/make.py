@@ -13,7 +13,8 @@ t1edit.wasm, and what is known of that, t1edit.json. It takes three steps:
    The toolchain lowered it for x86-64, and names that processor in its layout, its features and its stack probes; these are taken
    out. Nothing proves that the module means the same there. The toolchain's own way, a crate for wasm64, refuses all that takes
    memory from the heap.
-3. The page: page.html with its style, its scripts, the module, a font to begin with, and what docs/FAULTS.md says of each code.
+3. The page: page.html with its style, its scripts, the module, a font to begin with, what docs/FAULTS.md says of each code, and the
+   names of the glyphs of characters, by examples/pages.
 
 The first two are left out where t1edit.wasm is newer than all that it is made of. With --page-only they always are, and where
 t1edit.wasm isn't so new the status is 3. A proved module stands for an unproved one, but not the other way round.
@@ -35,6 +36,11 @@ import tempfile
 import time
 
 HERE = os.path.dirname(os.path.realpath(__file__))
+sys.path.insert(0, os.path.dirname(HERE))
+sys.dont_write_bytecode = True
+
+from pages.characters import TABLE  # noqa: E402
+
 TOP = os.path.dirname(os.path.dirname(HERE))
 HEADER = os.path.join(TOP, "include", "t1edit.h")
 CRATE = "t1_c"
@@ -246,6 +252,7 @@ def make_page(wasm, known, to):
         "FACTS": in_script({**facts, "bytes": os.path.getsize(wasm)}),
         "FONT": in_script(font),
         "MEANINGS": in_script(meanings()),
+        "CHARACTERS": in_script(TABLE),
     }
     write(to, re.sub(r"@([A-Z]+)@", lambda it: values[it[1]], text(os.path.join(HERE, "page.html"))))
 

@@ -5,13 +5,11 @@ const DATA = JSON.parse(at("page-data").textContent)
 const MARGIN = 60, FAR = 1e4
 // What is set in the font to begin with.
 const TEXT = "HAND-TO-PEN. ÉLAN VITAL"
-const ACCENTS = { "\u0300": "grave", "\u0301": "acute", "\u0302": "circumflex", "\u0303": "tilde", "\u0304": "macron", "\u0306": "breve",
-  "\u0307": "dotaccent", "\u0308": "dieresis", "\u030a": "ring", "\u030b": "hungarumlaut", "\u030c": "caron", "\u0327": "cedilla", "\u0328": "ogonek" }
 
-// What is open: the engine, a font, the name of its file without the ending, the glyph that is shown, and whether all edits are saved.
-// Drafts are bodies as they were typed, the refused ones too.
-let engine = null, font = null, base = "", shown = "", isSaved = true
-const drafts = new Map()
+// What is open: the engine, a font, the name of its file without the ending, and the glyph that is shown. Drafts are bodies as they were
+// typed; those that are refused aren't in the font. Unsaved are "glyphs" and "kerning", where these were edited since they were saved.
+let engine = null, font = null, base = "", shown = ""
+const drafts = new Map(), refusedDrafts = new Set(), unsaved = new Set()
 
 const escaped = text => text.replace(/[&<>"]/g, it => `&#${it.charCodeAt(0)};`)
 const counted = (count, what) => `${count} ${what}${count === 1 ? "" : "s"}`
@@ -26,7 +24,7 @@ function timed(action) {
 
 // What is refused.
 
-const FAULTS_SHOWN = 8
+const FAULTS_SHOWN = 8, REFUSED_SHOWN = 5
 const meaning = ({ code }) => DATA.meanings[code]?.[0] ?? ""
 const todo = ({ code }) => (DATA.meanings[code]?.[1] ?? "").replace(/^./, it => it.toUpperCase())
 
@@ -109,10 +107,12 @@ function fillGrid() {
 }
 
 function mark(name) {
-  const cell = inGrid(name)
+  const cell = inGrid(name), isRefused = refusedDrafts.has(name)
   cell.setAttribute("aria-selected", name === shown)
   cell.tabIndex = name === shown ? 0 : -1
   cell.classList.toggle("edited", font.edited.has(name))
+  cell.classList.toggle("draft", isRefused)
+  cell.title = isRefused ? `${name}: what was typed is refused, and isn't in the font` : name
 }
 
 /* Draws glyphs anew that have changed. */
@@ -179,7 +179,8 @@ function typed() {
   at("revert").disabled = false
   try {
     const [changed, took] = timed(() => font.replace(shown, text)), others = changed.filter(it => it !== shown)
-    isSaved = false
+    refusedDrafts.delete(shown)
+    unsaved.add("glyphs")
     judge(null, `and measured in ${took} ms.${others.length ? ` ${others.length} on it changed too:` : ""}`)
     renew(changed)
     mark(shown)
@@ -188,6 +189,8 @@ function typed() {
     setText()
   } catch (error) {
     if (!(error instanceof Refused)) return stopped(error)
+    refusedDrafts.add(shown)
+    mark(shown)
     judge(error)
   }
 }
@@ -198,25 +201,36 @@ function revert() {
   if (body !== null) typed()
   else judge(null, "")
   drafts.delete(shown)
+  refusedDrafts.delete(shown)
+  mark(shown)
   at("revert").disabled = true
 }
 
 // A line of text.
 
-/* The glyph of a character: a letter's own, one by its code, or one that is named by its letter and its accents. */
+/* The glyph of a character: one that the table has for it, or by its number as uni2116 or u1F600, or of ASCII the one of its code. */
 function glyphOf(character) {
-  if (font.glyphs.has(character)) return character
-  const byCode = font.codes.get(character.charCodeAt(0))
-  if (character.length === 1 && character < "\u007f" && font.glyphs.has(byCode)) return byCode
-  const [letter, ...accents] = character.normalize("NFD")
-  const name = letter + accents.map(it => ACCENTS[it]).join("")
-  return accents.length && font.glyphs.has(name) ? name : undefined
+  if ([...character].length !== 1) return undefined
+  const number = character.codePointAt(0).toString(16).toUpperCase().padStart(4, "0")
+  const byNumber = [...(number.length === 4 ? [`uni${number}`] : []), `u${number}`]
+  const byCode = character > " " && character < "\u007f" ? [font.codes.get(character.charCodeAt(0))] : []
+  return [...(DATA.characters[character] ?? []), ...byNumber, ...byCode].find(it => font.glyphs.has(it))
 }
 
-const namesOf = text => Array.from(text.matchAll(/\/([^\s/]+) ?|[^]/gu), it => it[1] ?? glyphOf(it[0])).filter(it => font.glyphs.has(it))
+/* The glyphs of a text, and what of it has none. */
+function glyphsOf(text) {
+  const names = [], lacking = new Set()
+  for (const [typed, given] of text.matchAll(/\/([^\s/]+) ?|[^]/gu)) {
+    const name = given ?? glyphOf(typed)
+    if (font.glyphs.has(name)) names.push(name)
+    else lacking.add(typed)
+  }
+  return { names, lacking: [...lacking].join(" ") }
+}
 
 function setText() {
-  const names = namesOf(at("text").value), pairs = new Set()
+  const { names, lacking } = glyphsOf(at("text").value), pairs = new Set()
+  at("lacking").textContent = lacking.trim() && `No glyph for: ${lacking}`
   let x = 0, low = 0, high = font.usual.middle, drawn = "", before = null
   for (const name of names) {
     const cell = font.glyphs.get(name), pair = `${before} ${name}`
@@ -243,10 +257,11 @@ function fillPairs(pairs) {
 }
 
 function kerned(input) {
-  const [left, right] = input.dataset.pair.split(" ")
+  const [left, right] = input.dataset.pair.split(" "), value = input.value === "" ? null : Number(input.value)
+  if (value !== null && !Number.isInteger(value)) return say(`${left} ${right} isn't taken: whole numbers only`)
   try {
-    font.kern(left, right, input.value === "" ? null : Number(input.value))
-    isSaved = false
+    font.kern(left, right, value)
+    unsaved.add("kerning")
     say(`${left} ${right}: ${input.value === "" ? "no pair" : input.value}`)
   } catch (error) {
     if (!(error instanceof Refused)) return stopped(error)
@@ -257,7 +272,7 @@ function kerned(input) {
 
 /* A text to begin with: the font's name where it can be set, else the pairs, or the first letters. */
 function someText() {
-  const name = font.name, drawn = namesOf(name)
+  const name = font.name, drawn = glyphsOf(name).names
   if (drawn.length === [...name].length) return name
   const pairs = [...font.pairs.keys()].slice(0, 6).join(" ").split(" ").filter(Boolean)
   const letters = [...font.glyphs.values()].filter(it => it.path).map(it => it.name).slice(0, 14)
@@ -266,28 +281,64 @@ function someText() {
 
 // Files.
 
-/* Opens a font in place of the one that is shown, which stays where the other is refused. */
-function openFont(name, bytes, pairs) {
+/* Opens a font in place of the one that is shown, which stays where the other is refused. Pairs with a fault are left out. */
+function openFont(name, bytes, pairsName, pairs) {
   try {
-    const [opened, took] = timed(() => Font.open(engine, bytes, pairs))
+    const [opened, took] = timed(() => Font.open(engine, bytes, pairs)), { without } = opened
     if (font) font.close()
     font = opened
     base = name.replace(/\.[^.]*$/, "") || font.fileName
-    isSaved = true
-    drafts.clear()
+    for (const it of [unsaved, drafts, refusedDrafts]) it.clear()
     at("trouble").hidden = true
-    say(`${name}: ${counted(font.glyphs.size, "glyph")} read, judged, measured and drawn in ${took} ms`)
+    say(`${name}: ${counted(font.glyphs.size, "glyph")} read, judged, measured and drawn in ${took} ms${without ? ", without pairs" : ""}`)
     showFont()
+    if (without) complain(pairsName, without)
   } catch (error) {
     if (!(error instanceof Refused)) return stopped(error)
     complain(name, error)
   }
 }
 
+/* Gives the font that is shown other pairs. Where they have a fault, its own ones stay. */
+function openPairs(name, pairs) {
+  try {
+    const opened = Font.open(engine, font.file("source"), pairs), { without } = opened
+    const [left, taken] = without ? [opened, font] : [font, Object.assign(opened, { first: font.first, edited: font.edited })]
+    left.close()
+    font = taken
+    if (without) return complain(name, without)
+    unsaved.add("kerning")
+    at("trouble").hidden = true
+    say(`${name}: ${counted(font.pairs.size, "kerning pair")}`)
+    showCounts()
+    setText()
+  } catch (error) {
+    if (!(error instanceof Refused)) return stopped(error)
+    complain(name, error)
+  }
+}
+
+/* Whether files may take the place of what isn't saved, which the user is asked where something isn't. */
+function mayLose(name, lost) {
+  const dialog = at("lose")
+  if (!lost.length) return true
+  if (dialog.open) return false
+  dialog.querySelector("p").textContent = `${name} takes the place of what isn't saved: ${lost.join(", ")}.`
+  dialog.returnValue = ""
+  dialog.showModal()
+  return new Promise(settle => dialog.addEventListener("close", () => settle(dialog.returnValue === "open"), { once: true }))
+}
+
+/* The refused drafts, in a few words. */
+function refusedOnes() {
+  const names = [...refusedDrafts], more = names.length - REFUSED_SHOWN
+  return `the refused draft${names.length === 1 ? "" : "s"} of ${names.slice(0, REFUSED_SHOWN).join(", ")}${more > 0 ? ` and ${more} more` : ""}`
+}
+
 function showFont() {
   document.title = `${font.name} – t1edit`
   at("font").textContent = font.name
-  at("count").textContent = `${counted(font.glyphs.size, "glyph")} · ${counted(font.pairs.size, "kerning pair")}`
+  showCounts()
   for (const it of document.querySelectorAll(".save")) it.disabled = false
   at("search").value = ""
   fillGrid()
@@ -298,18 +349,23 @@ function showFont() {
   setText()
 }
 
+function showCounts() {
+  at("count").textContent = `${counted(font.glyphs.size, "glyph")} · ${counted(font.pairs.size, "kerning pair")}`
+}
+
 /* Takes the files that were dropped or chosen: a font, or kerning pairs, or both. Pairs alone are those of the font that is open. */
 async function take(files) {
-  let given = null, name = "", pairs
+  let given = null, pairs = null
   for (const file of files) {
     const bytes = new Uint8Array(await file.arrayBuffer())
-    if (isPairs(bytes)) pairs = bytes
-    else [given, name] = [bytes, file.name]
+    if (isPairs(bytes)) pairs = { name: file.name, bytes }
+    else given = { name: file.name, bytes }
   }
-  if (given) openFont(name, given, pairs)
-  if (given || !pairs) return
-  openFont(`${base}.t1`, font.file("source"), pairs)
-  isSaved = false
+  const lost = [...unsaved].filter(it => given || it === "kerning")
+  if (given && refusedDrafts.size) lost.push(refusedOnes())
+  if (!(given || pairs) || !await mayLose((given ?? pairs).name, lost)) return
+  if (given) openFont(given.name, given.bytes, pairs?.name, pairs?.bytes)
+  else openPairs(pairs.name, pairs.bytes)
 }
 
 function save(kind) {
@@ -317,8 +373,8 @@ function save(kind) {
   const link = Object.assign(document.createElement("a"), { href: URL.createObjectURL(new Blob([bytes])), download: name })
   link.click()
   setTimeout(() => URL.revokeObjectURL(link.href), 60000)
-  isSaved ||= kind !== "afm"
-  say(`${name}: ${counted(bytes.length, "byte")} saved`)
+  unsaved.delete(kind === "afm" ? "kerning" : "glyphs")
+  say(`${name}: ${counted(bytes.length, "byte")} saved${refusedDrafts.size ? `, without ${refusedOnes()}` : ""}`)
 }
 
 // What is proved.
@@ -378,7 +434,7 @@ function listen() {
     event.preventDefault()
     save("pfb")
   })
-  addEventListener("beforeunload", event => { if (!isSaved) event.preventDefault() })
+  addEventListener("beforeunload", event => { if (unsaved.size || refusedDrafts.size) event.preventDefault() })
   addEventListener("dragover", event => {
     if (!event.dataTransfer.types.includes("Files")) return
     event.preventDefault()
@@ -401,7 +457,7 @@ async function begin() {
     throw error
   }
   listen()
-  openFont("sans.t1", bytesOf(DATA.font.t1), bytesOf(DATA.font.kern))
+  openFont("sans.t1", bytesOf(DATA.font.t1), "sans.kern", bytesOf(DATA.font.kern))
   at("text").value = TEXT
   setText()
   say("Drop a font on this page, or open one: PFB, PFA or source. Here is one to begin with.")

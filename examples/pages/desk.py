@@ -31,7 +31,7 @@ class Desk:
     """A font, what pages know of it, and the steps to undo. Each call may come from another thread.
 
     A call that edits gives the news for pages: the 'changed' cells, those of composites too, and the names of 'removed'
-    glyphs; the 'texts' of bodies that have changed otherwise than by typing; the pairs, where one has. What is 'refused' has
+    glyphs, and what 'characters' have a glyph then; the 'texts' of bodies that have changed otherwise than by typing; the pairs, where one has. What is 'refused' has
     its code and place, what it means, and where in the body the word stands that has the fault. It has changed nothing.
 
     What another program has written to the source is brought in beside what was edited here since it was read or saved. Its news
@@ -64,8 +64,8 @@ class Desk:
                 "cells": [asdict(it) for it in self._cells.values()],
                 "low": low,
                 "high": high,
-                "characters": characters(self._cells),
                 "asked": self._offered and self._offered[1],
+                **self._characters(),
                 **self._pairs(),
                 **self._standing(),
             }
@@ -199,6 +199,10 @@ class Desk:
     def _standing(self) -> News:
         return {"undo": len(self._steps)}
 
+    def _characters(self) -> News:
+        codes = {it.code: name for name, it in self._cells.items() if it.code is not None}
+        return {"characters": characters(self._cells, codes)}
+
     def _pairs(self) -> News:
         return {"pairs": {f"{left} {right}": value for (left, right), value in self._font.kern.items()}}
 
@@ -219,6 +223,7 @@ class Desk:
             "changed": [asdict(it) for name, it in self._cells.items() if it is not before.get(name) and it != before.get(name)],
             "removed": [name for name in before if name not in self._cells],
             "texts": {name: self._text(name) for name in retyped if name in self._cells},
+            **(self._characters() if before.keys() != self._cells.keys() else {}),
             **self._standing(),
         }
 
