@@ -5,6 +5,10 @@ from __future__ import annotations
 from typing import NamedTuple, Optional
 
 
+# What a session writes where an edit is taken.
+OK = b"ok\n"
+
+
 class Answer(NamedTuple):
     """A whole answer: its line, as 'ok' or 'refused E4', and for a print or a show its bytes."""
 
@@ -23,6 +27,11 @@ class Answers:
         self._bytes = bytearray()
         # the count of bytes of the data that are under way
         self._length: Optional[int] = None
+
+    @property
+    def is_empty(self) -> bool:
+        """Whether no piece of an answer is there."""
+        return self._length is None and not self._bytes
 
     def feed(self, piece: bytes) -> None:
         self._bytes += piece

@@ -5,8 +5,9 @@ from __future__ import annotations
 import ctypes
 import functools
 import os
-from typing import List, Optional, Tuple
+from typing import Any, List, Optional, Tuple
 
+from .answers import OK
 from .refusals import Stopped
 
 # The shared object is named by this variable.
@@ -33,7 +34,8 @@ def named(program: Optional[str] = None) -> Optional[str]:
 def loaded(path: str) -> ctypes.CDLL:
     """The library of a shared object. Raises OSError where it can't be loaded or is of another version."""
     library = ctypes.CDLL(path)
-    text, room = [ctypes.c_char_p, ctypes.c_size_t], [ctypes.c_char_p, ctypes.c_size_t, ctypes.POINTER(ctypes.c_size_t)]
+    text: List[Any] = [ctypes.c_char_p, ctypes.c_size_t]
+    room: List[Any] = [*text, ctypes.POINTER(ctypes.c_size_t)]
     handle = ctypes.POINTER(Handle)
     for name, kinds in (("version", []), ("open", [*text, *text, handle, *room]), ("answer", [handle, *room])):
         getattr(library, f"t1edit_{name}").argtypes = kinds
@@ -64,25 +66,21 @@ def rows_of_faults(path: str, source: bytes, pairs: bytes) -> List[List[str]]:
         room = length.value
 
 
-def cut(command: bytes) -> Tuple[bytes, bytes]:
-    """The line of a command as it is written to a session, and its body."""
-    line, _, rest = command.partition(b"\n")
-    return line, rest[: -len(b".\n")] if rest else b""
-
-
 class Calls:
-    """A session of the library, with the calls of Pipes: whole commands are pushed, and their answers moved out. For one call
-    at a time, since ctypes lets other threads run meanwhile.
+    """A session of the library, with the calls of Pipes, but that a command gives its answer when it is pushed. For one call at
+    a time, since ctypes lets other threads run meanwhile.
     """
 
     has_unwritten = False
 
     def __init__(self, path: str, source: str, kern: Optional[str]) -> None:
         self._library = loaded(path)
+        self._perform = self._library.t1edit_perform
         self._handle, self._length = Handle(), ctypes.c_size_t()
-        self._buffer, self._room = ctypes.create_string_buffer(ROOM), ROOM
-        self._owner = os.getpid()
-        self._given: List[bytes] = []
+        self._at = ctypes.byref(self._handle), ctypes.byref(self._length)
+        self._buffer: Any = ctypes.create_string_buffer(ROOM)
+        self._room = ROOM
+        self._owner, self.is_ours = os.getpid(), True
         self._status, self._said = 0, ""
         self._open(contents(source), b"" if kern is None else contents(kern))
 
@@ -91,22 +89,16 @@ class Calls:
         """The number of this process, which the session is part of."""
         return self._owner
 
-    @property
-    def is_ours(self) -> bool:
-        return self._owner == os.getpid()
-
-    def push(self, data: bytes) -> None:
-        """Performs a command."""
-        if self._handle.at:
-            self._given.append(self._performed(*cut(data)))
+    def push(self, line: bytes, body: Optional[bytes]) -> bytes:
+        """Performs a command, and gives its answer; nothing where there is no session."""
+        return self._performed(line, body or b"") if self._handle.at else b""
 
     def wait(self) -> List[Tuple[int, int]]:
         return []
 
     def move(self, ready: List[Tuple[int, int]]) -> Optional[bytes]:
-        """The answers that nobody has taken; None where there is none and the session has ended."""
-        given, self._given = b"".join(self._given), []
-        return given if given or self._handle.at else None
+        """Nothing more, and None where there is no session."""
+        return b"" if self._handle.at else None
 
     def close_input(self) -> None:
         self._close()
@@ -119,9 +111,8 @@ class Calls:
         return self._status, self._said
 
     def _open(self, source: bytes, pairs: bytes) -> None:
-        buffer, length = self._buffer, ctypes.byref(self._length)
-        handle = ctypes.byref(self._handle)
-        status = self._library.t1edit_open(source, len(source), pairs, len(pairs), handle, buffer, self._room, length)
+        handle, length = self._at
+        status = self._library.t1edit_open(source, len(source), pairs, len(pairs), handle, self._buffer, self._room, length)
         if status == REFUSED:
             self._status, self._said = FAULT, f"t1edit: {self._told().decode('latin-1')}\n"
         elif status != DONE:
@@ -129,8 +120,11 @@ class Calls:
 
     def _performed(self, line: bytes, body: bytes) -> bytes:
         """The answer to a command."""
-        handle, length = ctypes.byref(self._handle), ctypes.byref(self._length)
-        status = self._library.t1edit_perform(handle, line, len(line), body, len(body), self._buffer, self._room, length)
+        handle, length = self._at
+        status = self._perform(handle, line, len(line), body, len(body), self._buffer, self._room, length)
+        if self._length.value == len(OK) and status == DONE:
+            answer: bytes = self._buffer[: len(OK)]
+            return answer
         while status == UNTOLD or (status == DONE and self._length.value > self._room):
             if self._length.value > self._room:
                 self._room = self._length.value

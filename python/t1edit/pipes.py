@@ -6,7 +6,7 @@ import os
 import select
 import signal
 import subprocess
-from typing import Dict, List, Optional, Sequence, Tuple
+from typing import List, Optional, Sequence, Tuple
 
 # As many bytes as are written or read at once; a pipe of Linux holds so many.
 PIECE = 65536
@@ -30,10 +30,16 @@ class Pipes:
         self._input, self._output, self._errors = child.stdin, child.stdout, child.stderr
         for end in (self._input, self._output, self._errors):
             os.set_blocking(end.fileno(), False)
-        self._has_errors = True
-        self._owner = os.getpid()
+        # whether this process started the program, and isn't a fork of the one that did
+        self.is_ours = True
         self._unwritten = bytearray()
         self._said = bytearray()
+        # what there may be to read, and to write where some bytes wait
+        self._to_read, self._to_write = select.poll(), select.poll()
+        for end, events in ((self._output, select.POLLIN), (self._errors, select.POLLIN)):
+            self._to_read.register(end, events)
+            self._to_write.register(end, events)
+        self._to_write.register(self._input, select.POLLOUT)
 
     @property
     def pid(self) -> int:
@@ -44,22 +50,25 @@ class Pipes:
         """Whether some bytes still wait for the program to read."""
         return bool(self._unwritten)
 
-    def push(self, data: bytes) -> None:
-        """Has bytes written, as many as go into the pipe now, the others by move."""
-        self._unwritten += data
-        self._write()
+    def push(self, line: bytes, body: Optional[bytes]) -> bytes:
+        """Has a command written, as much as goes into the pipe now, the rest by move, which has its answer too."""
+        data = line + b"\n" if body is None else b"%s\n%s\n.\n" % (line, body)
+        if self._unwritten:
+            self._unwritten += data
+            return b""
+        try:
+            written = os.write(self._input.fileno(), data)
+        except BlockingIOError:
+            written = 0
+        except BrokenPipeError:  # (it has ended; what it gave before can still be read)
+            return b""
+        if written < len(data):
+            self._unwritten += data[written:]
+        return b""
 
     def wait(self) -> Ready:
         """Waits until something can be written, where something is to be, or read."""
-        ends: Dict[int, int] = {self._output.fileno(): select.POLLIN}
-        if self._unwritten:
-            ends[self._input.fileno()] = select.POLLOUT
-        if self._has_errors:
-            ends[self._errors.fileno()] = select.POLLIN
-        poll = select.poll()
-        for end, events in ends.items():
-            poll.register(end, events)
-        return poll.poll()
+        return (self._to_write if self._unwritten else self._to_read).poll()
 
     def move(self, ready: Ready) -> Optional[bytes]:
         """Writes and reads what can be; what the program gave, or None where it has closed its output."""
@@ -70,7 +79,9 @@ class Pipes:
             elif end == self._errors.fileno():
                 piece = read(end)
                 self._said += piece or b""
-                self._has_errors = piece is not None
+                if piece is None:
+                    self._to_read.unregister(end)
+                    self._to_write.unregister(end)
             else:
                 self._write()
         return given
@@ -80,11 +91,6 @@ class Pipes:
         self._unwritten.clear()
         self._input.close()
         self._child.stdin = None
-
-    @property
-    def is_ours(self) -> bool:
-        """Whether this process started the program, and isn't a fork of the one that did."""
-        return self._owner == os.getpid()
 
     def kill(self) -> None:
         """Kills the program where it runs, and what it has started."""
@@ -113,7 +119,7 @@ class Pipes:
             written = os.write(self._input.fileno(), self._unwritten[:PIECE])
         except BlockingIOError:
             return
-        except BrokenPipeError:  # (it has ended; what it gave before can still be read)
+        except BrokenPipeError:
             self._unwritten.clear()
             return
         del self._unwritten[:written]

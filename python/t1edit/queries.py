@@ -26,26 +26,28 @@ class Queries:
 
     def __init__(self, session: Session) -> None:
         self.session = session
-        self._changes = -1
+        self._changes = self._entries = -1
+        # what readers have found in prints of the font as it stands; and of the names and numbers of its entries
         self._kept: Dict[object, Any] = {}
+        self._there: Dict[str, Dict[str, None]] = {}
         self._shown_metrics = 0
 
     def glyph_names(self) -> List[str]:
         """The names of all glyphs, in the order of the source."""
-        return list(self._uses())
+        return list(self._names("glyph"))
 
     def has_glyph(self, name: str) -> bool:
-        return name in self._uses()
+        return name in self._names("glyph")
 
     def glyph_body(self, name: str) -> str:
         return body_of(self._show("glyph", name))
 
     def subr_numbers(self) -> List[int]:
         """The numbers of all Subrs, in the order of the source."""
-        return list(map(int, self._subrs()))
+        return list(map(int, self._names("subr")))
 
     def has_subr(self, number: int) -> bool:
-        return str(number) in self._subrs()
+        return str(number) in self._names("subr")
 
     def subr_body(self, number: int) -> str:
         return body_of(self._show("subr", number))
@@ -94,6 +96,17 @@ class Queries:
     def _read(self, what: str, reader: Callable[[str], T]) -> T:
         """What a reader finds in a print, each byte of which is a character."""
         return self._kept_of(reader, lambda: self.session.print(what).decode("latin-1"))
+
+    def _names(self, kind: str) -> Dict[str, None]:
+        """What glyphs or Subrs are called, in the order of the source; it is asked again once some may have come or gone."""
+        with self.session.held():
+            count = self.session.entries
+            if count != self._entries:
+                self._entries = count
+                self._there.clear()
+            if kind not in self._there:
+                self._there[kind] = dict.fromkeys(self._uses() if kind == "glyph" else self._subrs())
+            return self._there[kind]
 
     def _kept_of(self, reader: Callable[[str], T], given: Callable[[], str]) -> T:
         """What a reader finds in what the session gives; it is asked again once the font has changed."""

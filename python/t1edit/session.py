@@ -7,11 +7,12 @@ import copy
 import os
 import threading
 import warnings
+import weakref
 from collections import deque
 from typing import Any, ContextManager, Deque, Dict, Iterator, Optional, Tuple, Union
 
 from . import library
-from .answers import Answer, Answers, NoAnswer
+from .answers import OK, Answer, Answers, NoAnswer
 from .files import File, named
 from .pipes import Pipes
 from .program import ending, found, titles, unreadable
@@ -33,12 +34,17 @@ GUILTY: Dict[str, Dict[str, int]] = {
 }
 
 
+# The commands that begin and end a batch.
+OF_BATCHES = ("begin", "commit", "abort")
 # The commands that are answered with data.
 WITH_DATA = ("print", "show")
+TAKEN = Answer("ok")
 
 
 class Reply:
     """The answer to a command that was sent."""
+
+    __slots__ = ("_session", "_words", "_answer")
 
     def __init__(self, session: Session, words: Tuple[str, ...]) -> None:
         self._session = session
@@ -51,11 +57,13 @@ class Reply:
     def result(self) -> bytes:
         """Waits for the answer: the bytes of a print or a show, and none of any other command. Raises Refused and Stopped."""
         with self._session.held():
-            answer = self._session._wait_for(self)
+            answer = self._answer or self._session._wait_for(self)
+            if answer is TAKEN:
+                return b""
             if answer.line.startswith("refused "):
                 said = answer.line[len("refused ") :]
                 raise self._session._refusal(said, self._detail_of(said))
-        return answer.data or b""
+            return answer.data or b""
 
     def _detail_of(self, said: str) -> Detail:
         """The word that broke a rule; or where the fault is for which the command was refused, unless another edit has come
@@ -101,7 +109,7 @@ class Session:
         self._answers = Answers()
         self._waiting: Deque[Reply] = deque()
         self._last_edit: Optional[Reply] = None
-        self._changes = 0
+        self._changes = self._entries = 0
         self._in_batch = False
         self._is_torn = False
         with named(source) as path, named(kern) as pairs:
@@ -110,6 +118,7 @@ class Session:
             shared = library.named(program)
             words = [self._program, "session", *options, path]
             self._pipes: Union[Pipes, library.Calls] = library.Calls(shared, path, pairs) if shared else Pipes(words)
+            OPENED.add(self)
             self._ending = None
             try:
                 self.print("kern")  # (a font that is refused answers nothing)
@@ -144,22 +153,31 @@ class Session:
         """How often the font has changed: by an edit outside of batches, or by a batch. What is printed stays the same for as
         long. It waits for all answers that are under way."""
         with self.held():
-            while self._waiting and self._is_at_work():
-                self._exchange()
+            self._take_all()
             return self._changes
+
+    @property
+    def entries(self) -> int:
+        """How often glyphs or Subrs may have been added or removed: which of them there are stays the same for as long."""
+        with self.held():
+            self._take_all()
+            return self._entries
 
     def edit(self, *words: Word, body: Optional[str] = None) -> None:
         """Has a command performed, as edit('remove', 'glyph', 'A'); with a body for replace and add."""
-        self._done(*words, body=body)
+        with self._lock:
+            self.send(*words, body=body).result()
 
     def print(self, what: str) -> bytes:
         """The bytes of what is printed: 'source', 'kern', 'pfb', 'pfb N' in segments of N bytes, 'pfa', 'afm', 'uses'."""
-        return self._done("print", *what.split(" "))
+        with self._lock:
+            return self.send("print", *what.split(" ")).result()
 
     def show(self, what: str, *word: Word) -> bytes:
         """The bytes of what is shown of one entry: show('glyph', 'A'), show('subr', 4), show('metrics', 'A'),
         show('outline', 'A'); of the encoding: show('encoding'); or of the last edit that was refused: show('refusal')."""
-        return self._done("show", what, *word)
+        with self._lock:
+            return self.send("show", what, *word).result()
 
     @contextlib.contextmanager
     def batch(self) -> Iterator[None]:
@@ -181,23 +199,24 @@ class Session:
             self.edit("commit")
 
     def held(self) -> ContextManager[Any]:
-        """Keeps other threads waiting, as long as it is entered. A fork has none of them, and may have been made while one
-        held it."""
-        return self._lock if self._pipes.is_ours else contextlib.nullcontext()
+        """Keeps other threads waiting, as long as it is entered."""
+        return self._lock
 
     def send(self, *words: Word, body: Optional[str] = None) -> Reply:
         """Writes a command, whose answer may be taken later, and in any order. Answers that come meanwhile are read, so
         that it never waits for one to be taken. Raises NotSent and Stopped."""
         texts = tuple(map(text_of, words))
-        data = spelled(texts, body)
-        with self.held():
+        line, text = spelled(texts, body)
+        with self._lock:
             self._judge_open()
             reply = Reply(self, texts)
             if texts[0] not in WITH_DATA:
                 self._last_edit = reply
             self._is_torn = True
             self._waiting.append(reply)
-            self._pipes.push(data)
+            given = self._pipes.push(line, text)
+            if given:
+                self._take(given)
             self._is_torn = False
             while self._pipes.has_unwritten:
                 self._exchange()
@@ -225,10 +244,10 @@ class Session:
         text = "there wasn't memory enough" if code == "memory" else titles(self._program).get(code, "")
         return refusal(said, text, detail)
 
-    def _done(self, *words: Word, body: Optional[str] = None) -> bytes:
-        """The answer to a command, between which and the command no other one is sent."""
-        with self.held():
-            return self.send(*words, body=body).result()
+    def _take_all(self) -> None:
+        """Takes all answers that are under way."""
+        while self._waiting and self._is_at_work():
+            self._exchange()
 
     def _abort(self) -> None:
         """Drops the batch, where the session and its batch are still there."""
@@ -262,11 +281,15 @@ class Session:
         if given is None:
             self._ending = ending(self._program, "the session", *self._pipes.end())
         else:
-            self._answers.feed(given)
-            self._give_out()
+            self._take(given)
         self._is_torn = False
 
-    def _give_out(self) -> None:
+    def _take(self, given: bytes) -> None:
+        """Takes what the session has given, and gives out the answers that are whole then."""
+        if given == OK and self._answers.is_empty and self._waiting and self._waiting[0]._words[0] not in WITH_DATA:
+            self._note(self._waiting.popleft(), TAKEN)
+            return
+        self._answers.feed(given)
         try:
             answer = self._answers.take()
             while answer is not None:
@@ -280,17 +303,31 @@ class Session:
     def _note(self, reply: Reply, answer: Answer) -> None:
         """Gives out an answer, and keeps count of changes."""
         reply._answer = answer
-        is_taken = answer.line == "ok"
-        if reply._words == ("begin",):
-            self._in_batch = self._in_batch or is_taken
-        elif reply._words in (("commit",), ("abort",)):
-            self._changes += is_taken and reply._words == ("commit",)
-            self._in_batch = False
-        elif not self._in_batch:
-            self._changes += is_taken
+        words, is_taken = reply._words, answer is TAKEN or answer.line == "ok"
+        if words[0] in OF_BATCHES and len(words) == 1:
+            self._changes += is_taken and words[0] == "commit"
+            self._entries += words[0] == "commit"
+            self._in_batch = words[0] == "begin" and (self._in_batch or is_taken)
+        elif is_taken and not self._in_batch:
+            self._changes += 1
+            self._entries += words[0] in ("add", "remove")
 
     def _give_up(self, why: Error) -> None:
         """Ends the program where it runs, and leaves no process and no pipe behind."""
         self._ending = why
         self._pipes.kill()
         self._pipes.end()
+
+
+# The sessions that were opened. A fork of this process has none of its threads, which could hold their locks.
+OPENED: weakref.WeakSet[Session] = weakref.WeakSet()
+
+
+def leave_alone() -> None:
+    """In a fork the sessions are those of the process that opened them."""
+    for session in OPENED:
+        session._lock = threading.RLock()
+        session._pipes.is_ours = False
+
+
+os.register_at_fork(after_in_child=leave_alone)

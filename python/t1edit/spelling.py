@@ -4,38 +4,41 @@ from __future__ import annotations
 
 import operator
 import re
-from typing import Optional, Sequence, Union
+from typing import Optional, Sequence, Tuple, Union
 
 from .refusals import NotSent
 
 # A word of a command. A name is a str, and a number either.
 Word = Union[str, int]
 
-WITH_BODY = [("replace", "glyph"), ("replace", "subr"), ("add", "glyph"), ("add", "subr")]
-# A session's blanks: the bytes 0, 9, 12 and 32.
-BLANKS = "\0\t\f "
-# What ends a word or a line, and all else up to 32, which stands in no name.
-NOT_OF_A_WORD = re.compile("[\0- ]")
+WITH_BODY = frozenset([("replace", "glyph"), ("replace", "subr"), ("add", "glyph"), ("add", "subr")])
+# Words with a space between two of them. What ends a word or a line, and all else up to 32, stands in no name.
+LINE = re.compile("[^\0- ]+(?: [^\0- ]+)*")
+# A line that a session would take for the end of a body. Its blanks are the bytes 0, 9, 12 and 32.
+END = re.compile("(?:^|[\r\n])[\0\t\f ]*\\.[\0\t\f ]*(?:$|[\r\n])")
 
 
-def spelled(words: Sequence[str], body: Optional[str] = None) -> bytes:
-    """The bytes of a command and of its body. Raises NotSent.
-
-    Each character up to 255 is the byte of that number. A text with others is UTF-8, whose bytes above 127 the session
-    refuses in names, in numbers and in bodies outside of comments.
-    """
-    if not words:
-        raise NotSent("a command has a word")
-    for word in words:
-        judge_word(word)
+def spelled(words: Sequence[str], body: Optional[str] = None) -> Tuple[bytes, Optional[bytes]]:
+    """The bytes of a command's line, without its end, and of its body, where it has one. Raises NotSent."""
     takes_body = tuple(words[:2]) in WITH_BODY
-    if takes_body and body is None:
-        raise NotSent(f"{words[0]} {words[1]} takes a body")
-    if body is not None:
-        if not takes_body:
-            raise NotSent("a body belongs to replace and add, of a glyph or a Subr, and to these alone")
-        judge_body(body)
-    text = " ".join(words) + "\n" + ("" if body is None else f"{body}\n.\n")
+    if takes_body != (body is not None):
+        raise NotSent(
+            f"{words[0]} {words[1]} takes a body"
+            if takes_body
+            else "a body belongs to replace and add, of a glyph or a Subr, and to these alone"
+        )
+    line = " ".join(words)
+    if line.count(" ") != len(words) - 1 or not LINE.fullmatch(line):
+        judge_words(words)
+    if body is None:
+        return bytes_of(line), None
+    judge_body(body)
+    return bytes_of(line), bytes_of(body)
+
+
+def bytes_of(text: str) -> bytes:
+    """Each character up to 255 is the byte of that number. A text with others is UTF-8, whose bytes above 127 the session
+    refuses in names, in numbers and in bodies outside of comments."""
     try:
         return text.encode("latin-1")
     except UnicodeEncodeError:
@@ -59,15 +62,18 @@ def judge_name(name: str) -> None:
         raise TypeError(f"a name is a str, and not {name!r}")
 
 
-def judge_word(word: str) -> None:
+def judge_words(words: Sequence[str]) -> None:
     """Refuses a word that a session would take for two, for none, or for the end of its line."""
-    if not word or NOT_OF_A_WORD.search(word):
-        raise NotSent(f"no word of a command: {word!r}", word)
+    if not words:
+        raise NotSent("a command has a word")
+    for word in words:
+        if " " in word or not LINE.fullmatch(word):
+            raise NotSent(f"no word of a command: {word!r}", word)
 
 
 def judge_body(body: str) -> None:
     """Refuses a body with a line that a session would take for its end. Raises TypeError where it is no str."""
     if not isinstance(body, str):
         raise TypeError(f"a body is a str, and not {type(body).__name__}")
-    if any(line.strip(BLANKS) == "." for line in re.split("[\r\n]", body)):
+    if "." in body and END.search(body):
         raise NotSent("a body with a line '.', which would end it", ".")
