@@ -67,9 +67,7 @@ class Desk:
     def rest(self, *names):
         """Does what is due: all of it, or what has these names."""
         for name in names or ("judge", "hold", "notes"):
-            due = self.wire._due.pop(f"{name} {URI}", None)
-            if due:
-                due[1]()
+            self.wire.run_now(f"{name} {URI}")
 
     def diagnostics(self):
         """What was told last, of this version."""

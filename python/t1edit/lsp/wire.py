@@ -53,12 +53,16 @@ class Wire:
             else:
                 self.run_due()
 
-    def run_due(self, is_all: bool = False) -> None:
-        """Does what is due by now, or all that waits."""
+    def run_now(self, name: str) -> None:
+        """Does at once what was to be done later by this name, if anything was."""
+        if name in self._due:
+            self._due.pop(name)[1]()
+
+    def run_due(self) -> None:
+        """Does what is due by now."""
         now = time.monotonic()
-        for name in [name for name, (when, _) in self._due.items() if is_all or when <= now]:
-            if name in self._due:
-                self._due.pop(name)[1]()
+        for name in [name for name, (when, _) in self._due.items() if when <= now]:
+            self.run_now(name)
 
     def _patience(self) -> Optional[float]:
         """How long nothing is due, in seconds; None where nothing is."""

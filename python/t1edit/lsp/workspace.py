@@ -61,10 +61,13 @@ class Workspace:
         return bool(self.client.startswith(CODE) if wanted is None else wanted)
 
     def document(self, params: Json) -> Document:
-        """The document that a request names."""
+        """The document that a request names, once its changes are judged, and a session has a font of it where it can."""
         uri = params["textDocument"]["uri"]
         if uri not in self.documents:
             raise Refusal(f"not open: {uri}")
+        self.wire.run_now(f"judge {uri}")
+        if self.documents[uri].held is None:
+            self.wire.run_now(f"hold {uri}")
         return self.documents[uri]
 
     def ask(self, method: str, params: Any) -> None:
