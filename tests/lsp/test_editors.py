@@ -42,7 +42,7 @@ class Editors(Room):
         settings_here = settings("lua").replace("~/src/t1edit/editors/vim", os.path.join(TOP, "editors", "vim"))
         with open(self.path("init.lua"), "w", encoding="utf-8") as file:
             file.write(settings_here)
-        self.edited("nvim", "-n", "--headless", "-i", "NONE", "-u", "init.lua", "demo.t1", "-c", f"luafile {HERE}/nvim.lua")
+        self.edited("nvim", "-n", "--headless", "-i", "NONE", "-u", "init.lua", "demo.t1", "-c", f"luafile {HERE}/nvim.lua", "-c", "cquit!")
 
     def test_emacs(self):
         if not shutil.which("emacs"):

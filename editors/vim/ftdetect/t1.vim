@@ -1,5 +1,5 @@
 " Sources of Type 1 fonts. A font's file is shown as its source, and is made of it when it is written.
-autocmd BufNewFile,BufRead *.t1 setfiletype t1
+autocmd BufNewFile,BufRead *.t1 set filetype=t1
 autocmd BufReadCmd *.pfb,*.pfa call s:read(expand('<amatch>'))
 autocmd BufWriteCmd *.pfb,*.pfa call s:write(expand('<amatch>'))
 

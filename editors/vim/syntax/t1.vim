@@ -16,7 +16,7 @@ syntax match t1Section /\v\/(Subrs[ \t]+\d{1,9}[ \t]+array|CharStrings[ \t]+\d{1
 syntax match t1Border /\v<(currentfile eexec|mark currentfile closefile)[ \t]*$/
 
 " A head of an entry, whose brace ends the line or stands before a number, a comment or a command of a Subr; and its body.
-syntax match t1Name /\v^[ \t]*\/[^ \t()<>\[\]{}\/%;]+[ \t]*(\{[ \t]*(%.*|-?\d.*|endchar.*)?$)@=/ nextgroup=t1Body
+syntax match t1Name /\v^[ \t]*\/[^ \t()<>\[\]{}\/%;]+[ \t]*(\{[ \t]*([%].*|-?\d.*|endchar.*)?$)@=/ nextgroup=t1Body
 syntax match t1Name /\v^[ \t]*dup[ \t]+\d+[ \t]*(\{)@=/ nextgroup=t1Body
 syntax region t1Body contained matchgroup=t1Brace start=/{/ end=/}/ contains=t1Unknown,t1Value,t1Command,t1Call,t1Comment
 syntax match t1Unknown contained /[^ \t{}%]\+/
