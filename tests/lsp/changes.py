@@ -42,11 +42,11 @@ def told_rightly(desk, told):
     return "" if shown == wanted else f"wanted {wanted}, told {shown}"
 
 
-def held_rightly(document, source, told):
+def held_rightly(document, source, told, is_printed):
     """What differs between the session's font and the text, or nothing."""
     if document.is_held == bool(told):
         return "the session holds a font with a fault" if told else "the session doesn't hold the text"
-    if not told:
+    if not told and is_printed:
         with Font(source) as font:
             return "" if font.source() == document.held.font.source() else "the session's source is another"
     return ""
@@ -58,33 +58,31 @@ def placed_rightly(document):
     return "" if (kept.entries, kept.rows, kept.slots, kept.sections) == (fresh.entries, fresh.rows, fresh.slots, fresh.sections) else "places"
 
 
-def changes(path, count, seed, say=print):
+def changes(path, count, seed):
     """Makes so many changes of a source. Returns how many of each kind there were, and what differed."""
     with open(path, "rb") as file:
         text = file.read().decode("latin-1")
     pick, kinds, wrong = chance(seed), Counter(), []
     desk = Desk(text, pick.choice(["utf-8", "utf-16", "utf-32"]))
     try:
-        for n in range(count):
+        while kinds["changes"] < count and len(wrong) < 5:
             before = list(desk.document.lines)
-            made = [random_change(pick, desk.document)]
-            one(desk, made, kinds, wrong, n)
+            one(desk, [random_change(pick, desk.document)], kinds, wrong)
             if pick.random() < (0.6 if desk.document.faults else 0.1):
-                one(desk, [back(before, desk.document)], kinds, wrong, n)
+                one(desk, [back(before, desk.document)], kinds, wrong)
                 if desk.document.lines != before:
                     wrong.append("a change isn't taken back")
             if len(desk.document.faults) > 4 or pick.random() < (0.4 if desk.document._is_apart else 0.01):
-                one(desk, [{"text": text}], kinds, wrong, n)
-            if len(wrong) > 5:
-                break
+                one(desk, [{"text": text}], kinds, wrong)
     finally:
         desk.close()
     return kinds, wrong
 
 
-def one(desk, made, kinds, wrong, n):
+def one(desk, made, kinds, wrong):
     """Makes changes, and compares all that is known of the text then with what is read from scratch."""
-    document = desk.document
+    document, n = desk.document, kinds["changes"]
+    kinds["changes"] += 1
     desk.change(*made)
     by_session = not document._is_apart
     source = document.text.as_bytes()
@@ -94,7 +92,7 @@ def one(desk, made, kinds, wrong, n):
     kinds["with faults"] += bool(told)
     differs = [same(document, told), told_rightly(desk, told), placed_rightly(document)]
     desk.rest("hold")
-    differs.append(held_rightly(document, source, told))
+    differs.append(held_rightly(document, source, told, n % 3 == 0))
     if n % 10 == 0:
         desk.rest("notes")
         desk.diagnostics()

@@ -25,7 +25,7 @@ class Changes(unittest.TestCase):
         kinds, wrong = changes(path, count, seed)
         self.assertEqual(wrong, [])
         for kind in ("by session", "refused by it", "whole", "with faults"):
-            self.assertGreater(kinds[kind], count // 50, kinds)
+            self.assertGreater(kinds[kind], count // 50, dict(kinds))
 
     def test_a_font_with_composites(self):
         self.made(SANS, COUNT // 2, SEED)
