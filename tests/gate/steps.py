@@ -20,6 +20,7 @@ BESIDE = [
     "tests/random --all-changes",
     "tests/alloc-failures --every 25",
     "tests/clients",
+    "tests/lsp/run",
     "tests/python/run",
     "tests/exit-status",
     "tests/library python",

@@ -36,12 +36,16 @@ class Desk:
     """A text in the server, and the same text as its lines."""
 
     def __init__(self, text, unit="utf-16", **options):
+        self.begin(text, unit, **options)
+        self.rest()
+
+    def begin(self, text, unit="utf-16", **options):
+        """Opens the text, whose faults are told then."""
         self.wire = Told()
         self.server = Server(self.wire)
         self.version = 1
         self.ask("initialize", capabilities={"general": {"positionEncodings": [unit]}}, initializationOptions=options)
         self.notify("textDocument/didOpen", textDocument={"uri": URI, "languageId": "t1", "version": 1, "text": text})
-        self.rest()
 
     @property
     def document(self):
@@ -87,6 +91,8 @@ def random_change(pick, document):
     if pick.random() < 0.5:
         row = pick.choice(rows_of_bodies(document) or [row])
     start = pick.randint(0, len(lines[row]))
+    if pick.random() < 0.06:
+        return composite(pick, document)
     kind = pick.random()
     if kind < 0.4 and lines[row][start : start + 1].isdigit():
         return {"range": text.span(row, start, start + pick.randint(0, 1)), "text": pick.choice("0123456789")}
@@ -97,6 +103,20 @@ def random_change(pick, document):
     far = min(len(lines) - 1, row + pick.randint(1, 3))
     end = pick.randint(0, len(lines[far]))
     return {"range": {"start": text.position(row, start), "end": text.position(far, end)}, "text": pick.choice(["", "\n", "7 8 rmoveto"])}
+
+
+def composite(pick, document):
+    """A glyph gets a body that may make it a composite, or one without parts."""
+    entries, places = document.places.entries, document.places
+    numbers = [it for it in places.of_kind("glyph") if entries[it].is_closed and entries[it].height]
+    if not numbers:
+        return {"range": document.text.span(0, 0, 0), "text": "%"}
+    number = pick.choice(numbers)
+    codes = f"{pick.randint(65, 90)} {pick.choice([193, 194, 200, pick.randint(65, 90)])}"
+    body = pick.choice([f"\n\t0 500 hsbw\n\t0 9 9 {codes} seac\n", f"\n0 500 hsbw 1 {codes} 9 9 seac\n", "\n0 500 hsbw endchar\n"])
+    first, last = places.rows[number], places.last(number)
+    end = document.lines[last].find("}")
+    return {"range": {"start": document.text.position(first, entries[number].body), "end": document.text.position(last, max(0, end))}, "text": body}
 
 
 def rows_of_bodies(document):

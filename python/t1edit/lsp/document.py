@@ -8,13 +8,13 @@ what `faults` tells of the text.
 
 from __future__ import annotations
 
-from typing import Dict, Iterable, List, Optional, Set
+from typing import Dict, Iterable, List, Mapping, Optional, Set
 
 from ..fault_list import Fault
 from ..refusals import Error, Refused
 from . import engine, places as stands
 from .engine import Held, Note
-from .part import Part
+from .part import COMPOSITE, Part
 from .places import GLYPH, Places
 from .runs import Run, run
 from .text import Json, Splice, Text, as_bytes
@@ -143,7 +143,7 @@ class Document:
         self._touched = set()
         try:
             if not self._behind or self.held.takes(self._behind):
-                self._forget_part_at(self._behind)
+                self._forget_part_by(self._behind)
                 self._behind = {}
                 return []
         except Error:  # (the session has ended)
@@ -158,13 +158,15 @@ class Document:
         if len(numbers) > FEW or any(self.places.entries[it].kind != GLYPH for it in numbers):
             return None
         if self._part is None:
-            self._part = Part(self.lines, self.places)
-        self._part.keep(numbers)
-        return None if self._part.is_whole else self._part.faults(self.lines, self.places)
+            self._part = Part(self.lines, self.places, self.run)
+        if self._part.is_whole:
+            return None
+        self._part.keep(numbers, self.lines, self.places)
+        return self._part.faults(self.lines, self.places)
 
-    def _forget_part_at(self, places: Iterable[str]) -> None:
-        """A Subr that was changed may make composites of other glyphs than before."""
-        if self._part is not None and any(not it.startswith(GLYPH) for it in places):
+    def _forget_part_by(self, bodies: Mapping[str, str]) -> None:
+        """A body that the font has now may make a composite, where none was: of its glyph, or of those that enter its Subr."""
+        if any(COMPOSITE in body or not place.startswith(GLYPH) for place, body in bodies.items()):
             self._part = None
 
     def _become(self, held: Held, stubs: Set[str]) -> None:

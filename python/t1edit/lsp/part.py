@@ -1,51 +1,76 @@
 """The part of a source on which the faults of some glyphs depend, as a source of its own.
 
 In a font without a fault some bodies are changed. Faults then stand in these, in Subrs that they enter, or in composites on them:
-each other glyph runs as before. So `faults` of the part that has all Subrs, these glyphs, all that may be composites, and all that
-a composite may have as a part, which StandardEncoding names, tells what it tells of the whole; only lines are counted otherwise.
+each other glyph runs as before. So `faults` of the part that has all Subrs, these glyphs, the composites on them, and the parts of
+both, tells what it tells of the whole; only lines are counted otherwise.
 """
 
 from __future__ import annotations
 
 import bisect
+from collections import defaultdict
 from dataclasses import replace
-from typing import Iterable, List, Optional, Set, Tuple
+from typing import Callable, Dict, Iterable, List, Optional, Set, Tuple
 
 from ..fault_list import Fault
 from . import engine
-from .places import GLYPH, SUBR, Places
+from .places import GLYPH, Places, words_of
+from .runs import Run
 from .text import as_bytes
 
 COMPOSITE = "seac"
 OF_A_LINE = "line "
+BEHIND_ALL = 1 << 62
 
 
 class Part:
-    """Which entries are left out: runs of numbers of entries between which no line stands, as first and last, ascending.
-
-    It holds as long as changes stay within bodies.
+    """Which entries are left out: runs of numbers of entries between which no line stands, as first and last, ascending. Those that
+    were once needed stay in. It holds as long as changes stay within bodies of glyphs.
     """
 
-    def __init__(self, lines: List[str], places: Places) -> None:
+    def __init__(self, lines: List[str], places: Places, run: Callable[[int], Run]) -> None:
+        self._composites = composites(lines, places)
+        # a Subr may make a composite of any glyph, so that nothing can be left out
+        self.is_whole = any(places.entries[it].kind != GLYPH for it in self._composites)
+        self._beside: Dict[int, Set[int]] = defaultdict(set)
+        for composite in [] if self.is_whole else self._composites:
+            self._join(composite, places, run(composite))
         self._runs: List[Tuple[int, int]] = []
-        self._kept = kept_of(lines, places)
-        self.is_whole = self._kept is None
-        for number in range(len(places.entries)):
-            if self._kept is None or number in self._kept:
-                continue
+        for number in places.of_kind(GLYPH):
             if self._runs and self._runs[-1][1] == number - 1 and places.last(number - 1) + 1 == places.rows[number]:
                 self._runs[-1] = self._runs[-1][0], number
             else:
                 self._runs.append((number, number))
 
-    def keep(self, numbers: Iterable[int]) -> None:
-        """Leaves these entries out no longer."""
-        for number in numbers:
-            at = bisect.bisect_right(self._runs, (number, 1 << 62)) - 1
-            if at >= 0 and self._runs[at][1] >= number:
-                first, last = self._runs[at]
-                left = [(first, number - 1)] if first < number else []
-                self._runs[at : at + 1] = left + ([(number + 1, last)] if number < last else [])
+    def _join(self, composite: int, places: Places, run: Run) -> None:
+        """A composite and its parts need each other: a fault of a part is told with the composites on it."""
+        for call in run.calls:
+            part = places.numbers.get(call.place)
+            if part is not None and call.command.text == COMPOSITE:
+                self._beside[composite].add(part)
+                self._beside[part].add(composite)
+
+    def keep(self, numbers: Iterable[int], lines: List[str], places: Places) -> None:
+        """Leaves these glyphs out no longer, and none that they need."""
+        todo, kept = list(numbers), set[int]()
+        if any(is_composite(lines, places, it) for it in todo):
+            # (it may have become one just now, of whatever StandardEncoding names)
+            names = (places.numbers.get(f"{GLYPH} {name}") for name in engine.standard_names().values())
+            todo += [*self._composites, *(it for it in names if it is not None)]
+        while todo:
+            number = todo.pop()
+            if number not in kept:
+                kept.add(number)
+                todo += self._beside.get(number, ())
+        for number in kept:
+            self._take_in(number)
+
+    def _take_in(self, number: int) -> None:
+        at = bisect.bisect_right(self._runs, (number, BEHIND_ALL)) - 1
+        if at >= 0 and self._runs[at][1] >= number:
+            first, last = self._runs[at]
+            left = [(first, number - 1)] if first < number else []
+            self._runs[at : at + 1] = left + ([(number + 1, last)] if number < last else [])
 
     def faults(self, lines: List[str], places: Places) -> Optional[List[Fault]]:
         """The faults of the text, or None where the part doesn't say: where it has none, or one of reading."""
@@ -65,19 +90,15 @@ class Part:
 
 def row_of(begins: List[Tuple[int, int]], row: int) -> int:
     """The row of the whole for one of the part."""
-    at, stood = begins[bisect.bisect_right(begins, (row, 1 << 62)) - 1]
+    at, stood = begins[bisect.bisect_right(begins, (row, BEHIND_ALL)) - 1]
     return stood + row - at
 
 
-def kept_of(lines: List[str], places: Places) -> Optional[Set[int]]:
-    """The entries on which faults of any glyph may depend: Subrs, composites, and what may be a part of one. None where a Subr may
-    make a composite of any glyph."""
-    parts = set(engine.standard_names().values())
-    kept = {number for number, it in enumerate(places.entries) if it.kind == SUBR or it.key in parts}
-    for row, line in enumerate(lines):
-        number = places.number_at(row) if COMPOSITE in line else None
-        if number is not None:
-            if places.entries[number].kind != GLYPH:
-                return None
-            kept.add(number)
-    return kept
+def composites(lines: List[str], places: Places) -> List[int]:
+    """The entries that have the command of a composite."""
+    rows = (row for row, line in enumerate(lines) if COMPOSITE in line)
+    return sorted({number for number in map(places.number_at, rows) if number is not None})
+
+
+def is_composite(lines: List[str], places: Places, number: int) -> bool:
+    return any(it.text == COMPOSITE for it in words_of(lines, places, number))
