@@ -159,10 +159,7 @@ class Document:
             return None
         if self._part is None:
             self._part = Part(self.lines, self.places, self.run)
-        if self._part.is_whole:
-            return None
-        self._part.keep(numbers, self.lines, self.places)
-        return self._part.faults(self.lines, self.places)
+        return None if self._part.is_whole else self._part.faults(numbers, self.lines, self.places)
 
     def _forget_part_by(self, bodies: Mapping[str, str]) -> None:
         """A body that the font has now may make a composite, where none was: of its glyph, or of those that enter its Subr."""

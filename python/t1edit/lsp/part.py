@@ -24,8 +24,8 @@ BEHIND_ALL = 1 << 62
 
 
 class Part:
-    """Which entries are left out: runs of numbers of entries between which no line stands, as first and last, ascending. Those that
-    were once needed stay in. It holds as long as changes stay within bodies of glyphs.
+    """What a font's glyphs need of each other, and which entries can be left out: runs of numbers of glyphs between which no line
+    stands, as first and last, ascending. It holds as long as changes stay within bodies, and no body makes another composite.
     """
 
     def __init__(self, lines: List[str], places: Places, run: Callable[[int], Run]) -> None:
@@ -50,8 +50,24 @@ class Part:
                 self._beside[composite].add(part)
                 self._beside[part].add(composite)
 
-    def keep(self, numbers: Iterable[int], lines: List[str], places: Places) -> None:
-        """Leaves these glyphs out no longer, and none that they need."""
+    def faults(self, numbers: Iterable[int], lines: List[str], places: Places) -> Optional[List[Fault]]:
+        """The faults of a text in which these glyphs were changed, or None where the part doesn't say: where it has none, or one of
+        reading."""
+        rows: List[str] = []
+        begins: List[Tuple[int, int]] = []
+        row = 0
+        for first, last in [*self._left_out(self._needed(numbers, lines, places)), (-1, -1)]:
+            end = len(lines) if first < 0 else places.rows[first]
+            begins.append((len(rows), row))
+            rows += lines[row:end]
+            row = places.last(last) + 1 if first >= 0 else end
+        found = engine.faults(as_bytes("\n".join(rows)))
+        if not found or any(it.place.startswith(OF_A_LINE) for it in found):
+            return None
+        return [replace(it, line=1 + row_of(begins, it.line - 1)) for it in found]
+
+    def _needed(self, numbers: Iterable[int], lines: List[str], places: Places) -> Set[int]:
+        """These glyphs, the composites on them, and the parts of all."""
         todo, kept = list(numbers), set[int]()
         if any(is_composite(lines, places, it) for it in todo):
             # (it may have become one just now, of whatever StandardEncoding names)
@@ -62,30 +78,18 @@ class Part:
             if number not in kept:
                 kept.add(number)
                 todo += self._beside.get(number, ())
+        return kept
+
+    def _left_out(self, kept: Set[int]) -> List[Tuple[int, int]]:
+        """The runs without the glyphs that are kept."""
+        runs = list(self._runs)
         for number in kept:
-            self._take_in(number)
-
-    def _take_in(self, number: int) -> None:
-        at = bisect.bisect_right(self._runs, (number, BEHIND_ALL)) - 1
-        if at >= 0 and self._runs[at][1] >= number:
-            first, last = self._runs[at]
-            left = [(first, number - 1)] if first < number else []
-            self._runs[at : at + 1] = left + ([(number + 1, last)] if number < last else [])
-
-    def faults(self, lines: List[str], places: Places) -> Optional[List[Fault]]:
-        """The faults of the text, or None where the part doesn't say: where it has none, or one of reading."""
-        rows: List[str] = []
-        begins: List[Tuple[int, int]] = []
-        row = 0
-        for first, last in [*self._runs, (-1, -1)]:
-            end = len(lines) if first < 0 else places.rows[first]
-            begins.append((len(rows), row))
-            rows += lines[row:end]
-            row = places.last(last) + 1 if first >= 0 else end
-        found = engine.faults(as_bytes("\n".join(rows)))
-        if not found or any(it.place.startswith(OF_A_LINE) for it in found):
-            return None
-        return [replace(it, line=1 + row_of(begins, it.line - 1)) for it in found]
+            at = bisect.bisect_right(runs, (number, BEHIND_ALL)) - 1
+            if at >= 0 and runs[at][1] >= number:
+                first, last = runs[at]
+                left = [(first, number - 1)] if first < number else []
+                runs[at : at + 1] = left + ([(number + 1, last)] if number < last else [])
+        return runs
 
 
 def row_of(begins: List[Tuple[int, int]], row: int) -> int:

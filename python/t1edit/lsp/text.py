@@ -45,7 +45,7 @@ class Text:
     """The lines of a document, without their ends. Rows and characters count from 0."""
 
     def __init__(self, text: str, unit: str = UTF_16) -> None:
-        self.lines, self.unit = LINE_END.split(text), unit
+        self.lines, self.unit = lines_of(text), unit
 
     def as_bytes(self) -> bytes:
         """The text as the program reads it."""
@@ -56,7 +56,7 @@ class Text:
 
     def change(self, change: Json) -> Splice:
         """Takes a change of the protocol."""
-        lines = LINE_END.split(change["text"])
+        lines = lines_of(change["text"])
         if "range" not in change:
             splice = Splice(0, len(self.lines), len(lines))
             self.lines = lines
@@ -115,4 +115,5 @@ def units(character: str, unit: str) -> int:
 
 
 def lines_of(text: str) -> List[str]:
-    return LINE_END.split(text)
+    """The lines of a text, whatever they end with."""
+    return LINE_END.split(text) if "\r" in text else text.split("\n")
