@@ -90,3 +90,5 @@ class Package(Room):
         script = "import t1edit, sys; print(t1edit.__file__, len(t1edit.Font(sys.argv[1]).glyphs))"
         ran = self.python("-c", script, DEMO, python=python, PYTHONPATH=self.path("installed"))
         self.assertEqual(ran.stdout, f"{self.path('installed/t1edit/__init__.py')} 6\n", ran.stderr)
+        ran = self.python(self.path("installed/bin/t1edit-lsp"), "--help", python=python, PYTHONPATH=self.path("installed"))
+        self.assertTrue(ran.stdout.startswith("usage: t1edit-lsp"), ran.stderr)
