@@ -18,7 +18,7 @@ class Client:
     def __init__(self, *words, **environment):
         self.environment = {**os.environ, "PYTHONPATH": PACKAGE, **environment}
         how = {"stdin": subprocess.PIPE, "stdout": subprocess.PIPE, "stderr": subprocess.PIPE, "env": self.environment}
-        self.process = subprocess.Popen([sys.executable, "-m", "t1edit.lsp", *words], **how)
+        self.process = subprocess.Popen([sys.executable, "-B", "-m", "t1edit.lsp", *words], **how)
         self.number, self.version, self.uri, self.text = 0, 0, "", ""
         self.told, self.unread = [], bytearray()
 

@@ -164,7 +164,7 @@ class Writing(Room):
     def test_a_fault_in_a_subr(self):
         found = self.replace(WEIGHT, "100 0 div 178 rlineto")
         self.assertEqual([(it["code"], it["relatedInformation"][0]["message"]) for it in found], [("F38", "glyph acute, subr 4")])
-        self.assertEqual(found[0]["relatedInformation"][0]["location"]["range"]["start"]["line"], self.c.spot("acute {\n\t93")[0])
+        self.assertEqual(found[0]["relatedInformation"][0]["location"]["range"]["start"], {"line": self.c.spot("4 callsubr")[0], "character": 3})
 
     def test_what_each_hint_mends(self):
         tries = [
@@ -363,6 +363,10 @@ class Files(Room):
         self.assertEqual(c.ask("workspace/textDocumentContent", uri=f"t1edit-source://{self.path('font.pfb')}")["text"], wanted)
         c.notify("textDocument/didOpen", textDocument={"uri": uri, "languageId": "t1", "version": 1, "text": "\x80"})
         self.assertIn("t1edit.source", c.next("window/showMessage")["message"])
+        c.open(self.path("font.pfb"), wanted.replace("endchar", "endcher"))
+        self.assertEqual({it["code"] for it in c.diagnostics(1)}, {"F20"})
+        self.assertEqual(c.ask("workspace/executeCommand", command="t1edit.write", arguments=[uri, "pfa"]), ["font.pfa"])
+        self.assertEqual(self.data("font.pfa"), self.made("assemble", "--font", "--pfa", self.path("font.pfb")))
         self.assertEqual(c.ask("workspace/executeCommand", command="t1edit.explain", arguments=["F20"])[:4], "F20:")
 
     def test_a_page(self):

@@ -4,7 +4,7 @@ from __future__ import annotations
 
 import os
 import re
-from typing import List, Optional
+from typing import List, Optional, Tuple
 
 from ..fault_list import Fault
 from ..program import TOP
@@ -68,13 +68,24 @@ def word_span(document: Document, row: int, start: int) -> Json:
     return document.text.span(row, start, found.end() if found else start)
 
 
-def calls(document: Document, chain: "tuple[str, ...]") -> List[Json]:
-    """Where the calls stand by which a glyph came to a fault: the glyph, and the Subrs on the way."""
-    places, found = document.places, []
-    for place in chain[:-1]:
-        number = places.numbers.get(place)
-        if number is not None:
-            entry = places.entries[number]
-            span = document.text.span(places.rows[number], entry.start, entry.end)
+def calls(document: Document, chain: Tuple[str, ...]) -> List[Json]:
+    """Where the calls stand by which a glyph came to a fault: in the glyph, and in the Subrs on the way."""
+    found = []
+    for caller, called in zip(chain, chain[1:]):
+        span = call_span(document, chain[0], caller, called)
+        if span is not None:
             found.append({"location": {"uri": document.uri, "range": span}, "message": ", ".join(chain)})
     return found
+
+
+def call_span(document: Document, glyph: str, caller: str, called: str) -> Optional[Json]:
+    """The range of the command by which a glyph's run goes from one entry to another; or of the caller's name."""
+    places = document.places
+    runner, number = places.numbers.get(glyph), places.numbers.get(caller)
+    if runner is None or number is None:
+        return None
+    for call in document.run(runner).calls:
+        if call.place == called and places.number_at(call.command.row) == number:
+            return document.text.span(call.command.row, call.command.start, call.command.end)
+    entry = places.entries[number]
+    return document.text.span(places.rows[number], entry.start, entry.end)

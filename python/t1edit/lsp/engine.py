@@ -127,6 +127,13 @@ class Held:
     def glyph(self, name: str) -> Optional[Glyph]:
         return self.font.glyphs[name] if name in self.uses() else None
 
+    def metrics_of(self, name: str) -> Optional[Metrics]:
+        """The metrics of one glyph, for which nothing else is read; None where it isn't there."""
+        try:
+            return metrics_of(self.font.session.show("metrics", name).decode("latin-1").rstrip("\n"))
+        except Refused:
+            return None
+
     def metrics(self) -> Dict[str, Metrics]:
         """The line of each glyph in the AFM file."""
         return {name: metrics_of(line) for name, line in metric_lines(self.font.afm().decode("latin-1")).items()}

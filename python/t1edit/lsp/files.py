@@ -28,8 +28,8 @@ def write(workspace: Workspace, uri: str, *forms: str) -> List[str]:
     for form in forms:
         if form not in FORMS:
             raise Refusal(f"no form of a font: {form}")
-        pairs = ["--kern", path_of(kern)] if kern and form == "afm" else []
-        ran = subprocess.run([found(), *FORMS[form], *pairs, "-o", f"{front}.{form}", path], capture_output=True, stdin=subprocess.DEVNULL)
+        options = [*(["--kern", path_of(kern)] if kern and form == "afm" else []), *(["--font"] if is_font(uri) else [])]
+        ran = subprocess.run([found(), *FORMS[form], *options, "-o", f"{front}.{form}", path], capture_output=True, stdin=subprocess.DEVNULL)
         if ran.returncode:
             workspace.show(f"{os.path.basename(front)}.{form} isn't written: {last_line(ran.stderr.decode('latin-1'))}", ERROR)
             return wrote

@@ -27,9 +27,10 @@ def inlay_hints(workspace: Workspace, params: Json) -> List[Json]:
     found = []
     for number in document.places.between(params["range"]["start"]["line"], params["range"]["end"]["line"]):
         entry, row = document.places.entries[number], document.places.rows[number]
-        glyph = document.held.glyph(entry.key) if entry.kind == GLYPH and entry.place not in document.stubs else None
-        if glyph is not None:
-            label = f"width {glyph.metrics.width}, box {' '.join(map(str, glyph.metrics.box))}"
+        is_known = entry.kind == GLYPH and entry.place not in document.stubs
+        metrics = document.held.metrics_of(entry.key) if is_known else None
+        if metrics is not None:
+            label = f"width {metrics.width}, box {' '.join(map(str, metrics.box))}"
             found.append({"position": document.text.position(row, FAR), "label": label, "paddingLeft": True})
     return found
 

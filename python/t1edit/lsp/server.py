@@ -2,6 +2,7 @@
 
 from __future__ import annotations
 
+import signal
 import sys
 from functools import partial
 from typing import Any, Callable, Dict, Optional, TextIO
@@ -10,6 +11,7 @@ from ..refusals import Error
 from . import actions, completion, files, hover, layout, navigation, rename
 from .diagnostics import diagnostics
 from .document import Document
+from .places import END_OF_PRIVATE
 from .text import Json
 from .wire import Message, Wire
 from .workspace import ERROR, Refusal, Workspace
@@ -133,7 +135,7 @@ class Server:
 
     def open(self, params: Json) -> None:
         it = params["textDocument"]
-        if files.is_font(it["uri"]):
+        if files.is_font(it["uri"]) and END_OF_PRIVATE not in it["text"]:
             self.workspace.show("a font's file is no source: the command t1edit.source shows the source of it")
             return
         document = Document(it["uri"], it["version"], it["text"], self.workspace.unit)
@@ -143,6 +145,7 @@ class Server:
     def change(self, params: Json) -> None:
         document = self.workspace.documents.get(params["textDocument"]["uri"])
         if document is not None:
+            self._drop(document, "hold", "notes")
             document.change(params["contentChanges"], params["textDocument"]["version"])
             # (of changes that have come together, what the last one leaves is judged)
             self.later("judge", document, 0, partial(self.judge, document))
@@ -151,8 +154,7 @@ class Server:
         document = self.workspace.documents.pop(params["textDocument"]["uri"], None)
         if document is not None:
             document.close()
-            for name in ("judge", "hold", "notes"):
-                self.wire.drop(f"{name} {document.uri}")
+            self._drop(document, "judge", "hold", "notes")
             self.wire.notify("textDocument/publishDiagnostics", {"uri": document.uri, "diagnostics": []})
 
     def judge(self, document: Document, pause: float = PAUSE) -> None:
@@ -179,6 +181,11 @@ class Server:
     def later(self, name: str, document: Document, seconds: float, call: Callable[[], None]) -> None:
         """Does something of a document after a while."""
         self.wire.later(f"{name} {document.uri}", seconds, lambda: self.guarded(name, call))
+
+    def _drop(self, document: Document, *names: str) -> None:
+        """Does no longer what was to be done of a document."""
+        for name in names:
+            self.wire.drop(f"{name} {document.uri}")
 
     def guarded(self, name: str, call: Callable[[], None]) -> None:
         """Does what nobody waits for. The user is told where the program can't be run; the server lives on."""
@@ -210,4 +217,8 @@ def main() -> int:
     if words:
         print(USAGE, end="", file=sys.stdout if words[0] in ("-h", "--help") else sys.stderr)
         return 0 if words[0] in ("-h", "--help") else 2
-    return Server(Wire()).serve()
+    signal.signal(signal.SIGTERM, lambda *_: sys.exit(1))
+    try:
+        return Server(Wire()).serve()
+    except (BrokenPipeError, KeyboardInterrupt):  # (the editor has gone)
+        return 1
