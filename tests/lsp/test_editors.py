@@ -1,5 +1,6 @@
 """A source in neovim and in Emacs, without a screen, by the settings of docs/EDITORS.md."""
 
+import json
 import os
 import shutil
 import subprocess
@@ -42,7 +43,8 @@ class Editors(Room):
         settings_here = settings("lua").replace("~/src/t1edit/editors/vim", os.path.join(TOP, "editors", "vim"))
         with open(self.path("init.lua"), "w", encoding="utf-8") as file:
             file.write(settings_here)
-        self.edited("nvim", "-n", "--headless", "-i", "NONE", "-u", "init.lua", "demo.t1", "-c", f"luafile {HERE}/nvim.lua", "-c", "cquit!")
+        script = ["-c", f"luafile {HERE}/nvim.lua", "-c", "cquit!"]
+        self.edited("nvim", "-n", "--headless", "-i", "NONE", "-u", "init.lua", "demo.t1", *script)
 
     def test_emacs(self):
         if not shutil.which("emacs"):
@@ -55,6 +57,25 @@ class Editors(Room):
         self.edited("emacs", "--batch", "-q", "-l", os.path.join(HERE, "eglot.el"))
         again = subprocess.run([PROGRAM, "disassemble", self.path("font.pfb")], capture_output=True, check=True).stdout
         self.assertIn(b"\t15 723 hsbw\n", again)
+
+    def test_the_extension_of_code(self):
+        """What it starts, registers and asks of the server, over stand-ins for VS Code."""
+        if not shutil.which("node"):
+            self.skipTest("the extension of VS Code, node, nodejs")
+        words = ["node", os.path.join(HERE, "extension.js"), os.path.join(TOP, "editors", "vscode", "extension.js")]
+        found = json.loads(subprocess.run(words, capture_output=True, check=True).stdout)
+        asked = [
+            ["server", "t1edit-lsp", "--stdio", {"writeOnSave": ["pfb"], "pictures": True}],
+            ["started"],
+            ["workspace/executeCommand", "t1edit.write", "file:///font.t1", "pfb", "afm"],
+            ["workspace/executeCommand", "t1edit.page", "file:///font.t1", 3, 4],
+            ["workspace/executeCommand", "t1edit.source", "file:///font.pfb"],
+            ["language", "t1"],
+            ["shown", "t1edit-source:///font.pfb", "the source"],
+            ["stopped"],
+        ]
+        self.assertEqual(found["asked"], asked)
+        self.assertTrue(found["isDisposed"])
 
 
 def has_eglot():

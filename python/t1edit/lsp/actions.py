@@ -79,7 +79,8 @@ def before_brace(document: Document, fault: Fault, word: str) -> Iterator[Edit]:
         row = document.places.last(number)
         line = document.lines[row]
         start = line.rfind("}") if document.places.entries[number].height == 0 else len(line) - len(line.lstrip("\0\t\f "))
-        yield f"write {word}", document.text.span(row, start, start), f"{word}\n\t" if start and line[:start].isspace() else f"{word} "
+        gap = "\n\t" if start and line[:start].isspace() else " "
+        yield f"write {word}", document.text.span(row, start, start), word + gap
 
 
 def closed(document: Document, fault: Fault) -> Iterator[Edit]:

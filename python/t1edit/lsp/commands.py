@@ -39,7 +39,9 @@ COMMANDS: Dict[str, Command] = {
     "setcurrentpoint": Command("x y", "the current point is (x, y); a flex stays as it is"),
     "div": Command("a b", "the quotient replaces both"),
     "callsubr": Command("n", "F32 where n is negative or there is no Subr n; F33 where ten Subrs are active; else Subr n runs"),
-    "return": Command("", "F34 in the glyph's own body; else the caller goes on. The end of a Subr's body does the same and is no step"),
+    "return": Command(
+        "", "F34 in the glyph's own body; else the caller goes on. The end of a Subr's body does the same and is no step"
+    ),
     "callothersubr": Command("arguments, their count, number", "see below"),
     "pop": Command("", "F43 where there is no result; F31 where the stack is full; else the first result is pushed"),
     "endchar": Command("", "the run ends; later words aren't run"),

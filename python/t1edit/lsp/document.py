@@ -1,9 +1,9 @@
 """A source that is edited, and what is known of it.
 
-There are two states. The session holds the last text that had no fault. As long as the text differs from it by bodies alone, a change
-is a `replace` of the session: where it takes that, the session is the text, and there is no fault. Where it refuses, and where the
-text differs by more, `faults` judges the text from scratch, or the part of it on which the faults depend. So what is told is always
-what `faults` tells of the text.
+There are two states. The session holds the last text that had no fault. As long as the text differs from it by bodies alone, a
+change is a `replace` of the session: where it takes that, the session is the text, and there is no fault. Where it refuses, and
+where the text differs by more, `faults` judges the text from scratch, or the part of it on which the faults depend. So what is
+told is always what `faults` tells of the text.
 """
 
 from __future__ import annotations

@@ -29,14 +29,24 @@ def write(workspace: Workspace, uri: str, *forms: str) -> List[str]:
         if form not in FORMS:
             raise Refusal(f"no form of a font: {form}")
         options = [*(["--kern", path_of(kern)] if kern and form == "afm" else []), *(["--font"] if is_font(uri) else [])]
-        ran = subprocess.run([found(), *FORMS[form], *options, "-o", f"{front}.{form}", path], capture_output=True, stdin=subprocess.DEVNULL)
+        ran = run(*FORMS[form], *options, "-o", f"{front}.{form}", path)
         if ran.returncode:
-            workspace.show(f"{os.path.basename(front)}.{form} isn't written: {last_line(ran.stderr.decode('latin-1'))}", ERROR)
+            workspace.show(f"{os.path.basename(front)}.{form} isn't written: {said(ran)}", ERROR)
             return wrote
         wrote.append(f"{os.path.basename(front)}.{form}")
     if wrote:
         workspace.show(f"t1edit wrote {' '.join(wrote)}")
     return wrote
+
+
+def run(*words: str) -> "subprocess.CompletedProcess[bytes]":
+    """Runs the program."""
+    return subprocess.run([found(), *words], capture_output=True, stdin=subprocess.DEVNULL)
+
+
+def said(ran: "subprocess.CompletedProcess[bytes]") -> str:
+    """Why the program has ended with a fault."""
+    return last_line(ran.stderr.decode("latin-1"))
 
 
 def save(workspace: Workspace, params: Json) -> None:
@@ -52,9 +62,9 @@ def is_font(uri: str) -> bool:
 
 def source(workspace: Workspace, uri: str) -> str:
     """The source of a font's file."""
-    ran = subprocess.run([found(), "disassemble", path_of(uri)], capture_output=True, stdin=subprocess.DEVNULL)
+    ran = run("disassemble", path_of(uri))
     if ran.returncode:
-        raise Refusal(last_line(ran.stderr.decode("latin-1")))
+        raise Refusal(said(ran))
     return ran.stdout.decode("latin-1")
 
 
@@ -95,7 +105,12 @@ def page_words(workspace: Workspace) -> List[str]:
     return ["python3", script]
 
 
-COMMANDS: Dict[str, Callable[..., Any]] = {"t1edit.write": write, "t1edit.source": source, "t1edit.page": page, "t1edit.explain": explain}
+COMMANDS: Dict[str, Callable[..., Any]] = {
+    "t1edit.write": write,
+    "t1edit.source": source,
+    "t1edit.page": page,
+    "t1edit.explain": explain,
+}
 
 
 def execute(workspace: Workspace, params: Json) -> Any:

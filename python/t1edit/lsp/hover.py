@@ -27,7 +27,8 @@ def hover(workspace: Workspace, params: Json) -> Optional[Json]:
     said = [*faults_at(document, found), *about(workspace, document, found)]
     if not said:
         return None
-    return {"contents": {"kind": "markdown", "value": "\n\n".join(said)}, "range": document.text.span(found.row, found.start, found.end)}
+    span = document.text.span(found.row, found.start, found.end)
+    return {"contents": {"kind": "markdown", "value": "\n\n".join(said)}, "range": span}
 
 
 def faults_at(document: Document, found: Target) -> List[str]:

@@ -101,7 +101,8 @@ def section_symbols(document: Document, kind: str) -> List[Json]:
 def located(document: Document, number: int) -> Json:
     entry = document.places.entries[number]
     where = {"uri": document.uri, "range": name_span(document, number)}
-    return {"name": title_of(document, number), "kind": SHOWN_AS[entry.kind], "location": where, "containerName": TITLES[entry.kind]}
+    shown = {"name": title_of(document, number), "kind": SHOWN_AS[entry.kind], "location": where}
+    return {**shown, "containerName": TITLES[entry.kind]}
 
 
 def workspace_symbols(workspace: Workspace, params: Json) -> List[Json]:

@@ -3,7 +3,7 @@
 from __future__ import annotations
 
 import subprocess
-from typing import Any, Dict, List
+from typing import Dict, List
 
 ADDRESS = "http://"
 
@@ -18,8 +18,9 @@ class Pages:
     def address(self, words: List[str], path: str) -> str:
         """The address of the page of a source, which is served from the first call on; nothing where it isn't served."""
         if path not in self._served or self._served[path].poll() is not None:
-            how: Dict[str, Any] = {"stdin": subprocess.DEVNULL, "stdout": subprocess.PIPE, "stderr": subprocess.DEVNULL, "text": True}
-            child = self._served[path] = subprocess.Popen([*words, path], **how)
+            nothing = subprocess.DEVNULL
+            child = subprocess.Popen([*words, path], stdin=nothing, stdout=subprocess.PIPE, stderr=nothing, text=True)
+            self._served[path] = child
             assert child.stdout is not None
             said = child.stdout.readline()
             self._addresses[path] = next((it for it in said.split() if it.startswith(ADDRESS)), "")

@@ -1,6 +1,7 @@
 """A glyph's run as it goes over the words of a text: where the pen stands at each, and which words call a Subr or name a part.
 
-This stands in for what the program doesn't tell yet (show calls, a trace of a run). It judges nothing: at what it can't run, it ends.
+This stands in for what the program doesn't tell yet (show calls, a trace of a run). It judges nothing: at what it can't run, it
+ends.
 """
 
 from __future__ import annotations

@@ -18,9 +18,9 @@ from .workspace import ERROR, Refusal, Workspace
 
 USAGE = """usage: t1edit-lsp [--stdio]
 
-A language server for sources of Type 1 fonts. An editor starts it and speaks with it over standard input and output; docs/EDITORS.md
-of the repository says how. Faults and notes are those of the program t1edit: the one that the variable T1EDIT names, or that of the
-PATH. Where T1EDIT_LIBRARY names the library for C, faults and the session are had of it, in this process.
+A language server for sources of Type 1 fonts. An editor starts it and speaks with it over standard input and output;
+docs/EDITORS.md of the repository says how. Faults and notes are those of the program t1edit: the one that the variable T1EDIT
+names, or that of the PATH. Where T1EDIT_LIBRARY names the library for C, faults and sessions are had of it, in this process.
 """
 NO_SUCH_METHOD, INVALID_REQUEST, NOT_INITIALIZED, FAILED, BROKEN = -32601, -32600, -32002, -32803, -32603
 INCREMENTAL = 2
