@@ -168,7 +168,7 @@ class Writing(Room):
 
     def test_what_each_hint_mends(self):
         tries = [
-            ("4 callsubr", "9 callsubr", "F32", "add an empty subr 9"),
+            ("4 callsubr", "9 callsubr", "F32", "add an empty Subr 9"),
             ("65 194 seac", "67 194 seac", "F45", "add an empty glyph C"),
             ("/V {", "/A {", "F10", "take this entry out"),
             ("dup 4 {", "dup 3 {", "F9", "take this entry out"),

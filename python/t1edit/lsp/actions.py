@@ -16,6 +16,7 @@ from .workspace import Workspace
 # A title, where something is put in place of what, and the text.
 Edit = Tuple[str, Json, str]
 
+TITLES = {GLYPH: "glyph", SUBR: "Subr"}
 EMPTY = {GLYPH: "\t0 0 hsbw\n\tendchar\n\t} ND\n", SUBR: "\treturn\n\t} NP\n"}
 HEADS = {GLYPH: "/{} {{\n", SUBR: "dup {} {{\n"}
 ONLY_A_NAME = re.compile(r"[\0\t\f ]*/[^\0\t\f ()<>\[\]{}/%]+[\0\t\f ]*$")
@@ -63,7 +64,7 @@ def added(document: Document, kind: str, key: str) -> Iterator[Edit]:
     last = max(document.places.of_kind(kind), default=None)
     if last is not None:
         row = document.places.last(last) + 1
-        yield f"add an empty {kind} {key}", document.text.span(row, 0, 0), HEADS[kind].format(key) + EMPTY[kind]
+        yield f"add an empty {TITLES[kind]} {key}", document.text.span(row, 0, 0), HEADS[kind].format(key) + EMPTY[kind]
 
 
 def taken_out(document: Document, fault: Fault) -> Iterator[Edit]:

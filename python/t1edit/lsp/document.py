@@ -8,7 +8,7 @@ told is always what `faults` tells of the text.
 
 from __future__ import annotations
 
-from typing import Dict, Iterable, List, Mapping, Optional, Set
+from typing import Dict, Iterable, List, Mapping, Optional, Set, Tuple
 
 from ..fault_list import Fault
 from ..refusals import Error, Refused
@@ -82,7 +82,8 @@ class Document:
 
     def judge(self) -> None:
         """Finds the faults of the text as it is now."""
-        self.faults = self._by_session() if self.held is not None and not self._is_apart else engine.faults(self.text.as_bytes())
+        is_near = self.held is not None and not self._is_apart
+        self.faults = self._by_session() if is_near else engine.faults(self.text.as_bytes())
 
     def look_for_notes(self) -> None:
         self.notes = engine.notes(self.text.as_bytes())
@@ -96,7 +97,8 @@ class Document:
         self._become(held, set())
         self._is_apart = False
         self._touched, self._behind, self._part = set(), {}, None
-        assert self.places is not None
+        # (read now, since they are moved along from here on)
+        assert self.places.rows is not None
 
     def hold_stubbed(self) -> None:
         """Where no session holds a font, and the text has faults: holds it with other bodies in place of those that have them."""
@@ -117,12 +119,12 @@ class Document:
         number, closing = self._entry_of(change)
         splice = self.text.change(change)
         self._move_notes(splice)
-        if number is None or closing is None or not stands.stays_apart(self.lines, self.places, number, splice, closing):
+        if number is None or closing is None or not stands.changes_a_body(self.lines, self.places, number, splice, closing):
             self._is_apart, self._places = True, None
         else:
             self._touched.add(number)
 
-    def _entry_of(self, change: Json) -> tuple[Optional[int], Optional[str]]:
+    def _entry_of(self, change: Json) -> Tuple[Optional[int], Optional[str]]:
         """The entry within whose lines a change stands, and the closing text of it; None where that doesn't matter any more."""
         if self._is_apart or "range" not in change:
             return None, None
@@ -159,7 +161,7 @@ class Document:
             return None
         if self._part is None:
             self._part = Part(self.lines, self.places, self.run)
-        return None if self._part.is_whole else self._part.faults(numbers, self.lines, self.places)
+        return self._part.faults(numbers, self.lines, self.places)
 
     def _forget_part_by(self, bodies: Mapping[str, str]) -> None:
         """A body that the font has now may make a composite, where none was: of its glyph, or of those that enter its Subr."""

@@ -4,6 +4,7 @@ from __future__ import annotations
 
 import os
 import subprocess
+import sys
 from typing import Any, Callable, Dict, List
 from urllib.parse import quote
 
@@ -12,7 +13,7 @@ from . import engine
 from .places import GLYPH
 from .targets import target
 from .text import Json
-from .workspace import ERROR, Refusal, Workspace, kerning_file, path_of
+from .workspace import ERROR, Refusal, Workspace, file_of, kerning_file, path_of
 
 FORMS = {"pfb": ["assemble"], "pfa": ["assemble", "--pfa"], "afm": ["measure"]}
 FONTS = (".pfb", ".pfa")
@@ -22,7 +23,7 @@ PAGES = [os.path.join(TOP, "examples", "live.py"), "/usr/share/doc/t1edit/exampl
 
 def write(workspace: Workspace, uri: str, *forms: str) -> List[str]:
     """Writes files of a source beside it, by the program, of the file as it was saved. Gives their names."""
-    path, kern = path_of(uri), kerning_file(uri)
+    path, kern = file_of(uri), kerning_file(uri)
     front = os.path.splitext(path)[0]
     wrote: List[str] = []
     for form in forms:
@@ -84,7 +85,7 @@ def page(workspace: Workspace, uri: str, line: int = 0, character: int = 0) -> s
     number = document.places.number_at(line)
     entry = None if number is None else document.places.entries[number]
     name = place.key if place.kind == GLYPH else entry.key if entry is not None and entry.kind == GLYPH else ""
-    address = workspace.pages.address(page_words(workspace), path_of(uri))
+    address = workspace.pages.address(page_words(workspace), file_of(uri))
     if not address:
         raise Refusal("the page isn't served; the file of a source with a fault has none")
     address += f"#{quote(name)}" if name else ""
@@ -102,7 +103,7 @@ def page_words(workspace: Workspace) -> List[str]:
     script = next((it for it in PAGES if os.path.exists(it)), None)
     if script is None:
         raise Refusal("no page is installed: the setting 'page' says how one is served")
-    return ["python3", script]
+    return [sys.executable, script]
 
 
 COMMANDS: Dict[str, Callable[..., Any]] = {

@@ -19,22 +19,21 @@ from .runs import Run
 from .text import as_bytes
 
 COMPOSITE = "seac"
+BASE_AND_ACCENT = ("bchar", "achar")
 OF_A_LINE = "line "
 BEHIND_ALL = 1 << 62
 
 
 class Part:
-    """What a font's glyphs need of each other, and which entries can be left out: runs of numbers of glyphs between which no line
-    stands, as first and last, ascending. It holds as long as changes stay within bodies, and no body makes another composite.
+    """What a font's glyphs need of each other, and which can be left out: runs of numbers of glyphs between which no line stands, as
+    first and last, ascending. It holds as long as changes stay within bodies, and no body makes another composite.
     """
 
     def __init__(self, lines: List[str], places: Places, run: Callable[[int], Run]) -> None:
         self._composites = composites(lines, places)
-        # a Subr may make a composite of any glyph, so that nothing can be left out
-        self.is_whole = any(places.entries[it].kind != GLYPH for it in self._composites)
         self._beside: Dict[int, Set[int]] = defaultdict(set)
-        for composite in [] if self.is_whole else self._composites:
-            self._join(composite, places, run(composite))
+        # a Subr may make a composite of any glyph; of a glyph that was changed the parts aren't known
+        self._unknown = {it for it in self._composites if not self._join(it, places, run)}
         self._runs: List[Tuple[int, int]] = []
         for number in places.of_kind(GLYPH):
             if self._runs and self._runs[-1][1] == number - 1 and places.last(number - 1) + 1 == places.rows[number]:
@@ -42,17 +41,22 @@ class Part:
             else:
                 self._runs.append((number, number))
 
-    def _join(self, composite: int, places: Places, run: Run) -> None:
-        """A composite and its parts need each other: a fault of a part is told with the composites on it."""
-        for call in run.calls:
-            part = places.numbers.get(call.place)
-            if part is not None and call.command.text == COMPOSITE:
-                self._beside[composite].add(part)
-                self._beside[part].add(composite)
+    def _join(self, composite: int, places: Places, run: Callable[[int], Run]) -> bool:
+        """A composite and its parts need each other: a fault of a part is told with the composites on it. Whether it is one."""
+        if places.entries[composite].kind != GLYPH:
+            return False
+        named = [places.numbers.get(it.place) for it in run(composite).calls if it.command.text == COMPOSITE]
+        parts = [it for it in named if it is not None]
+        for part in parts:
+            self._beside[composite].add(part)
+            self._beside[part].add(composite)
+        return len(parts) == len(BASE_AND_ACCENT)
 
-    def faults(self, numbers: Iterable[int], lines: List[str], places: Places) -> Optional[List[Fault]]:
-        """The faults of a text in which these glyphs were changed, or None where the part doesn't say: where it has none, or one of
-        reading."""
+    def faults(self, numbers: List[int], lines: List[str], places: Places) -> Optional[List[Fault]]:
+        """The faults of a text in which these glyphs were changed, or None where the part doesn't say: where it isn't known which
+        glyphs stand on them, where it has no fault, or one of reading."""
+        if not self._unknown.issubset(numbers):
+            return None
         rows: List[str] = []
         begins: List[Tuple[int, int]] = []
         row = 0

@@ -254,9 +254,10 @@ def body_of(lines: List[str], places: Places, number: int) -> str:
     return "\n".join(it.partition("%")[0].partition("}")[0] for it in rows)
 
 
-def stays_apart(lines: List[str], places: Places, number: int, splice: Splice, closing: str) -> bool:
-    """Whether lines that were replaced within an entry leave its head, its brace and the text behind that as they were, and open or
-    end nothing; so that only its body has changed, and all other lines are read as before. It then stands as it is now."""
+def changes_a_body(lines: List[str], places: Places, number: int, splice: Splice, closing: str) -> bool:
+    """Whether lines that were replaced within an entry have changed its body and nothing else: its head, its brace and the text
+    behind that are as they were, and nothing is opened or ended, so that all other lines are read as before. Then the entry stands
+    where it is now."""
     entry, row = places.entries[number], places.rows[number]
     last = row + entry.height + splice.added - splice.removed
     head: Optional[Entry] = entry

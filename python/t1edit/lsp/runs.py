@@ -15,7 +15,7 @@ from .commands import COMMANDS
 from .places import SUBR, Places, Word, words_of
 
 NUMBER = re.compile(r"-?[0-9]+")
-STEPS, DEPTH = 20000, 10
+STEPS, DEPTH = 100000, 10
 Point = Tuple[Fraction, Fraction]
 # Of the commands that move the pen: for each value whether it goes along x, y, or both in turn. A curve's values go in pairs.
 MOVES = {

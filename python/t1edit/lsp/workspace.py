@@ -84,6 +84,13 @@ def path_of(uri: str) -> str:
     return unquote(urlsplit(uri).path)
 
 
+def file_of(uri: str) -> str:
+    """The path of a file that is on the disk."""
+    if urlsplit(uri).scheme != "file":
+        raise Refusal(f"no file: {uri}")
+    return path_of(uri)
+
+
 def uri_of(path: str) -> str:
     return "file://" + quote(os.path.abspath(path))
 
