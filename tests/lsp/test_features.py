@@ -414,7 +414,10 @@ class Starting(Room):
         c.greet()
         c.open(DEMO)
         self.assertIn("nosuch", c.next("window/showMessage")["message"])
-        self.assertEqual(c.close()[0], 0)
+        c.change(0, 0, 0, 0, "%")
+        c.change(0, 0, 0, 0, "%")
+        status, said = c.close()
+        self.assertEqual((status, [it for it in c.told if it.get("method") == "window/showMessage"]), (0, []), said)
 
     def test_names(self):
         self.assertTrue(os.path.exists(os.path.join(TOP, "python", "t1edit", "lsp", "__main__.py")))

@@ -2,6 +2,7 @@
 
 from __future__ import annotations
 
+import functools
 import os
 import re
 from typing import List, Optional, Tuple
@@ -48,6 +49,7 @@ def diagnostic(span: Json, severity: int, code: str, message: str) -> Json:
     return {**found, "codeDescription": {"href": f"file://{page}#{code.lower()}"}} if page else found
 
 
+@functools.lru_cache(maxsize=None)
 def page_of_codes() -> Optional[str]:
     return next((it for it in PAGES if os.path.exists(it)), None)
 

@@ -74,6 +74,7 @@ class Server:
     def __init__(self, wire: Wire) -> None:
         self.wire, self.workspace = wire, Workspace(wire)
         self._is_greeted = self._is_shut = False
+        self._complained_of = ""
         self._notifications: Dict[str, Callable[[Json], None]] = {
             "textDocument/didOpen": self.open,
             "textDocument/didChange": self.change,
@@ -160,6 +161,7 @@ class Server:
     def judge(self, document: Document, pause: float = PAUSE) -> None:
         """Tells the faults of a text; its session is opened and its notes are looked for after a while."""
         document.judge()
+        self._complained_of = ""
         self.publish(document)
         self.later("hold", document, pause, partial(self.hold, document))
         self.later("notes", document, self.workspace.options["notesAfter"], partial(self.note, document))
@@ -192,10 +194,16 @@ class Server:
         try:
             call()
         except (Error, OSError, Refusal) as error:
-            log(f"{name}: {error}")
-            self.workspace.show(f"t1edit: {error}", ERROR)
+            self._complain(name, str(error))
         except Exception as error:  # (a mistake of ours)
             log(f"{name}: {error!r}")
+
+    def _complain(self, name: str, why: str) -> None:
+        """Shows what is wrong, once for as long as it is the same."""
+        if why != self._complained_of:
+            self._complained_of = why
+            log(f"{name}: {why}")
+            self.workspace.show(f"t1edit: {why}", ERROR)
 
     def _close_all(self) -> None:
         for document in self.workspace.documents.values():
