@@ -153,7 +153,7 @@ class Writing(Room):
         found = self.replace("300 hlineto", "300 hlneto")
         message = "glyph A: an unknown word: hlneto (hlineto?)\ncomposites on it: Aacute"
         self.assertEqual(self.told(found), [("F20", message, row, 5, 11)])
-        self.assertTrue(found[0]["codeDescription"]["href"].endswith("docs/FAULTS.md#f20"))
+        self.assertTrue(found[0]["codeDescription"]["href"].endswith("docs/FAULTS.md#f20-an-unknown-word"))
         hovered = said(self.c.ask("textDocument/hover", **self.c.at(row, 6)))
         self.assertTrue(hovered.startswith("```text\nF20: an unknown word"), hovered)
         hovered = said(self.c.ask("textDocument/hover", **self.c.at(*self.c.spot("V {"))))

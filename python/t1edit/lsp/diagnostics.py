@@ -4,8 +4,9 @@ from __future__ import annotations
 
 import functools
 import os
+import pathlib
 import re
-from typing import List, Optional, Tuple
+from typing import Dict, List, Optional, Tuple
 
 from ..fault_list import Fault
 from ..program import TOP
@@ -17,6 +18,9 @@ ERROR, WARNING = 1, 2
 WORD = re.compile(r"[^\0\t\f {}%]+|.?")
 BLANKS_AND_COMMENT = re.compile(r"[\0\t\f ]*(%.*)?$")
 SOURCE = "t1edit"
+# A section of the page with all codes, and what its name as an anchor leaves out.
+HEAD = re.compile(r"(?m)^### (([A-Za-z0-9-]+): .*)$")
+NO_ANCHOR = re.compile(r"[^a-z0-9 -]")
 # Of so many glyphs that met a fault in a Subr, the places are told.
 SEVERAL = 20
 # Where the page with all codes may stand: in a checkout, or as Debian has it.
@@ -45,13 +49,19 @@ def of_note(document: Document, note: Note) -> Json:
 
 def diagnostic(span: Json, severity: int, code: str, message: str) -> Json:
     found = {"range": span, "severity": severity, "source": SOURCE, "code": code, "message": message}
-    page = page_of_codes()
-    return {**found, "codeDescription": {"href": f"file://{page}#{code.lower()}"}} if page else found
+    link = links().get(code)
+    return {**found, "codeDescription": {"href": link}} if link else found
 
 
 @functools.lru_cache(maxsize=None)
-def page_of_codes() -> Optional[str]:
-    return next((it for it in PAGES if os.path.exists(it)), None)
+def links() -> Dict[str, str]:
+    """Where the page says what a code means; nothing where the page isn't there."""
+    path = next((it for it in PAGES if os.path.exists(it)), None)
+    if path is None:
+        return {}
+    with open(path, encoding="utf-8") as file:
+        heads, page = HEAD.findall(file.read()), pathlib.Path(path).as_uri()
+    return {code: f"{page}#{NO_ANCHOR.sub('', head.lower()).replace(' ', '-')}" for head, code in heads}
 
 
 def span_of(document: Document, fault: Fault) -> Json:

@@ -3,8 +3,9 @@
 from __future__ import annotations
 
 import os
+import pathlib
 from typing import Any, Dict, Optional
-from urllib.parse import quote, unquote, urlsplit
+from urllib.parse import unquote, urlsplit
 
 from .document import Document
 from .pages import Pages
@@ -91,11 +92,7 @@ def file_of(uri: str) -> str:
     return path_of(uri)
 
 
-def uri_of(path: str) -> str:
-    return "file://" + quote(os.path.abspath(path))
-
-
 def kerning_file(uri: str) -> Optional[str]:
     """The URI of the kerning file of a source, NAME.kern beside NAME.t1, where it is there."""
     path = os.path.splitext(path_of(uri))[0] + ".kern"
-    return uri_of(path) if os.path.exists(path) else None
+    return pathlib.Path(path).as_uri() if os.path.exists(path) else None
