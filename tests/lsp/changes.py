@@ -1,7 +1,6 @@
 """Changes by chance: after each of them what is told is what `faults` and `notes` tell of the text from scratch."""
 
 import json
-import os
 import subprocess
 import sys
 from collections import Counter
