@@ -9,7 +9,7 @@ import sys
 HERE = os.path.dirname(os.path.abspath(__file__))
 TOP = os.path.dirname(os.path.dirname(HERE))
 PACKAGE = os.path.join(TOP, "python")
-SECONDS = 20
+SECONDS = 90
 
 
 class Client:
