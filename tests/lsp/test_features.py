@@ -331,7 +331,7 @@ class Files(Room):
         self.assertEqual(c.next("window/showMessage")["message"], "demo.pfb isn't written: F1")
         c.notify("workspace/didChangeConfiguration", settings={"t1edit": {"writeOnSave": []}})
         c.notify("textDocument/didSave", textDocument={"uri": c.uri})
-        c.diagnostics(1)
+        c.ask("textDocument/foldingRange", textDocument={"uri": c.uri})
         self.assertEqual([it for it in c.told if it.get("method") == "window/showMessage"], [])
 
     def test_rename_in_the_kerning_file(self):
@@ -364,7 +364,7 @@ class Files(Room):
         c.notify("textDocument/didOpen", textDocument={"uri": uri, "languageId": "t1", "version": 1, "text": "\x80"})
         self.assertIn("t1edit.source", c.next("window/showMessage")["message"])
         c.open(self.path("font.pfb"), wanted.replace("endchar", "endcher"))
-        self.assertEqual({it["code"] for it in c.diagnostics(1)}, {"F20"})
+        self.assertEqual({it["code"] for it in c.diagnostics(1, bool)}, {"F20"})
         self.assertEqual(c.ask("workspace/executeCommand", command="t1edit.write", arguments=[uri, "pfa"]), ["font.pfa"])
         self.assertEqual(self.data("font.pfa"), self.made("assemble", "--font", "--pfa", self.path("font.pfb")))
         self.assertEqual(c.ask("workspace/executeCommand", command="t1edit.explain", arguments=["F20"])[:4], "F20:")
