@@ -26,7 +26,7 @@ use Rattle.t1_faults.proofs.KeptLaws.{same_turned}
 
 -- ---- faults with composites are the faults
 
-told_still : (code : Code) (place : Place) (composites : List FoundFault → FoundFault → List (List ℕ)) (before : List FoundFault) (faults : List FoundFault) → IsTold code place faults → IsTold code place (each_with composites before faults)
+pub told_still : (code : Code) (place : Place) (composites : List FoundFault → FoundFault → List (List ℕ)) (before : List FoundFault) (faults : List FoundFault) → IsTold code place faults → IsTold code place (each_with composites before faults)
 told_still code place composites before [] h = absurd h
 told_still code place composites before (fault ∷ faults) (inl h) = inl h
 told_still code place composites before (fault ∷ faults) (inr h) = inr (told_still code place composites (before ++ fault ∷ []) faults h)

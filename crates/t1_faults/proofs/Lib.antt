@@ -9,6 +9,7 @@ pub mod KeptLaws
 pub mod LineLaws
 pub mod LoopLaws
 pub mod MetLaws
+pub mod NamingLaws
 pub mod PairsLaws
 pub mod PlacedLaws
 pub mod ReadingLaws

@@ -77,7 +77,7 @@ as_many_of (word ∷ words) cs e = by (λ more f. as_many_of words more f) (comm
   by below (Ok c) (Err code) f h = absurd (cc)
   by below (Err code) rest f h = absurd (cc)
 
-as_many : (words : List (List ℕ)) (cs : List Command) → commands words ≡ Ok cs → length words ≡ length cs
+pub as_many : (words : List (List ℕ)) (cs : List Command) → commands words ≡ Ok cs → length words ≡ length cs
 unfolding commands
 as_many words cs e =
     elim (cases_Bool (nat_lt 65535 (length words))) [

@@ -58,16 +58,16 @@ use Rattle.t1_faults.proofs.SoundLaws.{bodies_fine, long_as}
 use Rattle.t1_faults.proofs.StandingOnLaws.{named_on, named_told, naming}
 use Rattle.t1_faults.proofs.TakenLaws.{AreOf}
 
-told_left : (code : Code) (place : Place) (xs ys : List FoundFault) → IsTold code place xs → IsTold code place (xs ++ ys)
+pub told_left : (code : Code) (place : Place) (xs ys : List FoundFault) → IsTold code place xs → IsTold code place (xs ++ ys)
 told_left code place [] ys h = absurd h
 told_left code place (x ∷ xs) ys (inl h) = inl h
 told_left code place (x ∷ xs) ys (inr h) = inr (told_left code place xs ys h)
 
-told_right : (code : Code) (place : Place) (xs ys : List FoundFault) → IsTold code place ys → IsTold code place (xs ++ ys)
+pub told_right : (code : Code) (place : Place) (xs ys : List FoundFault) → IsTold code place ys → IsTold code place (xs ++ ys)
 told_right code place [] ys h = h
 told_right code place (x ∷ xs) ys h = inr (told_right code place xs ys h)
 
-told_first : (code : Code) (place : Place) (xs ys : List FoundFault) → IsTold code place xs → IsTold code place (or_else xs ys)
+pub told_first : (code : Code) (place : Place) (xs ys : List FoundFault) → IsTold code place xs → IsTold code place (or_else xs ys)
 told_first code place [] ys h = absurd h
 told_first code place (x ∷ xs) ys h = h
 
@@ -89,7 +89,7 @@ words_told place (w ∷ ws) code e = by (λ h. words_told place ws code h) (comm
       let same : other ≡ code = cc in
       rw h (inl (same, refl))
 
-body_told : (e : Entry) (ws : List (List ℕ)) (code : Code) → map (λ w. w.word) (placed_words e) ≡ ws → commands ws ≡ Err code → IsTold code e.place (body_faults e)
+pub body_told : (e : Entry) (ws : List (List ℕ)) (code : Code) → map (λ w. w.word) (placed_words e) ≡ ws → commands ws ≡ Err code → IsTold code e.place (body_faults e)
 unfolding commands
 body_told e ws code is refused =
     elim (cases_Bool (nat_lt 65535 (length ws))) [
@@ -170,11 +170,11 @@ of_entries code p f P [] h told = absurd h
 of_entries code p f P (e ∷ es) (inl here) told = of_left code p (f e) (flat_map f es) (told e here)
 of_entries code p f P (e ∷ es) (inr later) told = of_right code p (f e) (flat_map f es) (of_entries code p f P es later told)
 
-at_code : (e : Entry) (w : Option PlacedWord) (f : RunFault) → (at_place e w f).code ≡ f.code
+pub at_code : (e : Entry) (w : Option PlacedWord) (f : RunFault) → (at_place e w f).code ≡ f.code
 at_code e None f = refl
 at_code e (Some w) f = refl
 
-at_own_place : (e : Entry) (w : Option PlacedWord) (f : RunFault) → (at_place e w f).place ≡ e.place
+pub at_own_place : (e : Entry) (w : Option PlacedWord) (f : RunFault) → (at_place e w f).place ≡ e.place
 at_own_place e None f = refl
 at_own_place e (Some w) f = refl
 
@@ -182,18 +182,18 @@ at_chains : (e : Entry) (w : Option PlacedWord) (f : RunFault) → (at_place e w
 at_chains e None f = refl
 at_chains e (Some w) f = refl
 
-met_told : (code : Code) (p : List ℕ) (e : Entry) (ws : List PlacedWord) (fs : List RunFault) → HasMet code p fs → IsMet code p (map (in_entry e ws) fs)
+pub met_told : (code : Code) (p : List ℕ) (e : Entry) (ws : List PlacedWord) (fs : List RunFault) → HasMet code p fs → IsMet code p (map (in_entry e ws) fs)
 met_told code p e ws [] h = absurd h
 met_told code p e ws (f ∷ fs) (inl h) =
     inl (at_code e (slice_get ws f.word) f ∙ h.0, subst (HasChain p) (sym (at_chains e (slice_get ws f.word) f)) h.1)
 met_told code p e ws (f ∷ fs) (inr h) = inr (met_told code p e ws fs h)
 
 -- the faults of an entry, where these runs fail
-abbrev faults_with : List GlyphFailure → Entry → List FoundFault
+abbrev pub faults_with : List GlyphFailure → Entry → List FoundFault
 faults_with failed = entry_faults (own_fault failed) (faults_at failed)
 
 -- where the body has none, they are those that runs met
-met_listed : (failed : List GlyphFailure) (x : Entry) (place : Place) → body_faults x ≡ [] → x.place ≡ place
+pub met_listed : (failed : List GlyphFailure) (x : Entry) (place : Place) → body_faults x ≡ [] → x.place ≡ place
     → faults_with failed x ≡ met_faults x (met_in (own_fault failed) (faults_at failed) place (length (placed_words x)))
 met_listed failed x place sound stands =
     ap (λ fs. or_else fs (run_faults (own_fault failed) (faults_at failed) x)) sound
@@ -241,7 +241,7 @@ run_told items es p code are checked there fails =
 
 -- ---- a join
 
-join_told : (run : OwnRuns) (items : List Item) (es : List Entry) (g : List ℕ) (code : Code) → AreOf items es → list_any (bytes_eq g) (glyph_names items) ≡ true
+pub join_told : (run : OwnRuns) (items : List Item) (es : List Entry) (g : List ℕ) (code : Code) → AreOf items es → list_any (bytes_eq g) (glyph_names items) ≡ true
     → sound_within run 4 g ≡ true → glyph_metrics_at run g ≡ Err code → IsTold code (places.Glyph g) (flat_map (join_faults run) es)
 join_told run [] es g code are there sound fails = absurd (cc)
 join_told run (Plain l ∷ items) es g code are there sound fails = join_told run items es g code are there sound fails
@@ -265,10 +265,10 @@ join_told run (Glyph name words closing ∷ items) (x ∷ es) g code are there s
     ]
 
 -- a glyph that isn't sound stands on one whose own run has a fault
-abbrev Unsound : OwnRuns → ℕ → List ℕ → Type 0
+abbrev pub Unsound : OwnRuns → ℕ → List ℕ → Type 0
 Unsound run depth g = (p : List ℕ) × (code : Code) × StandsOn run depth g p × (run p ≡ Some (Err code))
 
-unsound : (run : OwnRuns) (depth : ℕ) (g : List ℕ) → sound_within run depth g ≡ false → Unsound run depth g
+pub unsound : (run : OwnRuns) (depth : ℕ) (g : List ℕ) → sound_within run depth g ≡ false → Unsound run depth g
 unsound run zero g h = by (run g) refl where
   parts : (c : Option Composite) → sound_parts (λ part. true) c ≡ true
   parts None = refl
@@ -297,11 +297,11 @@ unsound run (suc depth) g h = by (λ part k. unsound run depth part k) (run g) r
 
 -- ---- the first fault of glyphs
 
-or_second : (a b : Bool) → b ≡ true → (a || b) ≡ true
+pub or_second : (a b : Bool) → b ≡ true → (a || b) ≡ true
 or_second true b h = refl
 or_second false b h = h
 
-or_first : (a b : Bool) → a ≡ true → (a || b) ≡ true
+pub or_first : (a b : Bool) → a ≡ true → (a || b) ≡ true
 or_first true b h = refl
 or_first false b h = absurd (cc)
 
@@ -349,7 +349,7 @@ measured_first items fault bodies e = by (glyph_metrics_among (own (font_to_run 
 -- ---- a source
 
 -- what has a run is a glyph of the source
-is_glyph_of : (items : List Item) (p : List ℕ) (code : Code) → own (font_to_run items) p ≡ Some (Err code) → list_any (bytes_eq p) (glyph_names items) ≡ true
+pub is_glyph_of : (items : List Item) (p : List ℕ) (code : Code) → own (font_to_run items) p ≡ Some (Err code) → list_any (bytes_eq p) (glyph_names items) ≡ true
 is_glyph_of items p code e =
     elim (cases_Bool (list_any (bytes_eq p) (glyph_names items))) [
       | inl there ↦ there

@@ -8,9 +8,13 @@ use Rattle.t1_frac.specs.declared.fault.Place.{Place}
 use Rattle.t1_frac.specs.declared.fault.Place.TheVariants as places
 use Rattle.t1_parts.specs.SourceParts.{SourceParts}
 use Rattle.t1_run.specs.declared.outline.Composite.{Composite}
-use Rattle.t1_run.specs.Run.{Drawing, own}
+use Rattle.t1_run.specs.Run.{Drawing, FontBodies, own}
+use Rattle.t1_font.specs.Glyphs.{glyph_names}
+use Rattle.t1_font.specs.MeasuredGlyphs.{glyph_metrics_at}
 use Rattle.t1_font.specs.ToRun.{font_to_run}
+use Rattle.t1_chain.specs.Failing.{Failure}
 use Rattle.t1_faults.specs.Composites.{OwnRuns, names_glyph}
+use Rattle.t1_faults.specs.Failing.{glyph_failure, missing_subr}
 use Rattle.t1_faults.specs.Placed.{HasAt}
 use Rattle.t1_faults.specs.declared.call_chains.CallChain.{CallChain}
 use Rattle.t1_faults.specs.declared.found.FoundFault.{FoundFault}
@@ -61,3 +65,19 @@ TellsComposites run fault = AllByRecursion (λ g. (p : List ℕ) × StandsOn run
 abbrev pub IsNamed : List ℕ → List FoundFault → Type 0
 IsNamed g [] = ⊥
 IsNamed g (fault ∷ faults) = (names_glyph g fault ≡ true) ⊎ ((list_any (bytes_eq g) fault.composites ≡ true) ⊎ IsNamed g faults)
+
+-- profile, faults: the run of a glyph's own body fails, since it calls a Subr of this number and has none
+abbrev pub MissesSubr : FontBodies → List ℕ → ℕ → Type 0
+MissesSubr m g n = (f : Failure) × (glyph_failure m g ≡ Some f) × (missing_subr f ≡ Some n)
+
+-- profile, faults: a glyph is or stands on one whose run misses a Subr, and a fault is told in the entry of that Subr
+abbrev pub MissesToldSubr : FontBodies → List FoundFault → List ℕ → Type 0
+MissesToldSubr m found g =
+    (p : List ℕ) × (n : ℕ) × (code : Code) × StandsOn (own m) 4 g p × MissesSubr m p n × IsTold code (places.Subr n) found
+
+-- profile, faults: each glyph of a source whose run or outline fails is named by one of the faults, or is among the composites of
+-- one; or it is or stands on a glyph that calls a Subr which has no body to run, and of that Subr's words a fault is told
+abbrev pub NamesFailing : SourceParts → List FoundFault → Type 0
+NamesFailing s found =
+    (g : List ℕ) (code : Code) → list_any (bytes_eq g) (glyph_names s.items) ≡ true → glyph_metrics_at (own (font_to_run s.items)) g ≡ Err code
+    → IsNamed g found ⊎ MissesToldSubr (font_to_run s.items) found g

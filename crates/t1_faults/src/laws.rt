@@ -7,10 +7,11 @@ ghost use Rattle.t1_frac.specs.declared.fault.Place.TheVariants.{Glyph};
 ghost use Rattle.t1_text.specs.Lines.{lines};
 ghost use Rattle.t1_pairs.specs.Kerning.{pairs};
 ghost use Rattle.t1_parts.specs.Reading.{reads};
+ghost use Rattle.t1_parts.specs.SourceParts.{SourceParts};
 ghost use Rattle.t1_faults.specs.Judging.{checked, source_faults};
 ghost use Rattle.t1_faults.specs.Reading.{reading_fault};
-ghost use Rattle.t1_faults.specs.Telling.{IsAccountedFor, IsNamed, TellsComposites, TellsWord};
-ghost use Rattle.t1_faults.specs.Telling.{runs_read};
+ghost use Rattle.t1_faults.specs.Telling.{IsAccountedFor, IsNamed, NamesFailing};
+ghost use Rattle.t1_faults.specs.Telling.{TellsComposites, TellsWord, runs_read};
 
 /// Where no fault is found, `check` passes.
 pub fn check_passes_where_none()
@@ -52,4 +53,12 @@ pub fn composites_stand_there()
 pub fn reported_glyph_is_named()
     ensures { (bytes : List ℕ) (fault : Fault) (g : List ℕ) → checked bytes ≡ Err fault →
         fault.place ≡ Glyph g → IsNamed g (source_faults bytes) }
+{}
+
+/// Each glyph whose run or outline fails is named by one of the faults that are found, or is among
+/// the composites of one; or a run of it, or of a glyph on which it stands, calls a Subr whose
+/// words can't be read, of which a fault is found.
+pub fn failing_glyphs_are_named()
+    ensures { (bytes : List ℕ) (s : SourceParts) → reads bytes ≡ Ok s →
+        NamesFailing s (source_faults bytes) }
 {}
