@@ -7,6 +7,7 @@ pub mod Kept
 pub mod LineSections
 pub mod Merged
 pub mod NoteTexts
+pub mod NoteFacts
 pub mod Notes
 pub mod NumberedLines
 pub mod PairNotes

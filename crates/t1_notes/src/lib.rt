@@ -9,7 +9,8 @@
 //! the crate above, whose notes stand on runs of the glyphs.
 //!
 //! What is proved: `notes_of`: the notes of a text, by its lines, whether or not it can be read;
-//! `notes_text`: their lines.
+//! `notes_text`: their lines. `laws`: what a note on the encoding or on a count says of the text
+//! holds.
 #![tactic(auto)]
 
 mod bodies;
@@ -19,6 +20,7 @@ mod encoding;
 mod glyphs;
 mod heads;
 mod kept;
+pub mod laws;
 mod line;
 mod merging;
 mod names;
