@@ -142,7 +142,7 @@ passes_check : (s : SourceParts) (font : MeasuredFont) → file_check s ≡ Ok t
 unfolding measured_source
 passes_check s font file glyphs = rw (file, glyphs) refl
 
-same_told : (faulty : ℕ → Bool) (o : Option Failure) (f : Failure) → option_and_then (told_failure faulty) o ≡ Some f → o ≡ Some f
+pub same_told : (faulty : ℕ → Bool) (o : Option Failure) (f : Failure) → option_and_then (told_failure faulty) o ≡ Some f → o ≡ Some f
 same_told faulty None f e = absurd (cc)
 same_told faulty (Some x) f e = by (is_some_and faulty (missing_subr x)) e where
   by : (b : Bool) → cond b None (Some x) ≡ Some f → Some x ≡ Some f

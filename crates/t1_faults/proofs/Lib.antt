@@ -3,6 +3,7 @@ pub mod ColumnLaws
 pub mod CompositeLaws
 pub mod EntryLaws
 pub mod FailureLaws
+pub mod FaultPlaceLaws
 pub mod FoundLaws
 pub mod JudgingLaws
 pub mod KeptLaws

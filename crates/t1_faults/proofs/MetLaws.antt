@@ -152,10 +152,10 @@ run_there F g f fails (e ∷ es) (inr later) = by (failed_run F e.place) (run_th
   by (Some x) h = inr h
 
 -- each has the failure of its glyph
-abbrev FailsSo : Failures → GlyphFailure → Type 0
+abbrev pub FailsSo : Failures → GlyphFailure → Type 0
 FailsSo F r = F r.glyph ≡ Some r.failure
 
-each_fails : (F : Failures) (es : List Entry) → AllByRecursion (FailsSo F) (failed_runs F es)
+pub each_fails : (F : Failures) (es : List Entry) → AllByRecursion (FailsSo F) (failed_runs F es)
 each_fails F [] = tt
 each_fails F (e ∷ es) = by e.place (each_fails F es) where
   of_glyph : (g : List ℕ) (o : Option Failure) → F g ≡ o → AllByRecursion (FailsSo F) (failed_runs F es) → AllByRecursion (FailsSo F) (cons_option (option_map (run_of g) o) (failed_runs F es))
@@ -170,7 +170,7 @@ each_fails F (e ∷ es) = by e.place (each_fails F es) where
 
 -- ---- in a glyph's own body
 
-first_true : (a b : Bool) → (a && b) ≡ true → a ≡ true
+pub first_true : (a b : Bool) → (a && b) ≡ true → a ≡ true
 first_true true b h = refl
 first_true false b h = h
 

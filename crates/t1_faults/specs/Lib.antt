@@ -2,6 +2,7 @@ pub mod CodeForms
 pub mod Composites
 pub mod Entries
 pub mod Failing
+pub mod FaultPlaces
 pub mod Found
 pub mod GlyphRuns
 pub mod Hints

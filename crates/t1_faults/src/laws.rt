@@ -6,9 +6,11 @@ ghost use Rattle.t1_frac.specs.declared.fault.Fault.{Fault};
 ghost use Rattle.t1_frac.specs.declared.fault.Place.TheVariants.{Glyph};
 ghost use Rattle.t1_text.specs.Lines.{lines};
 ghost use Rattle.t1_pairs.specs.Kerning.{pairs};
+ghost use Rattle.t1_parts.specs.Parts.{parts_of};
 ghost use Rattle.t1_parts.specs.Reading.{reads};
 ghost use Rattle.t1_parts.specs.SourceParts.{SourceParts};
-ghost use Rattle.t1_faults.specs.Judging.{checked, source_faults};
+ghost use Rattle.t1_faults.specs.FaultPlaces.{StandsThere};
+ghost use Rattle.t1_faults.specs.Judging.{checked, entries_in, source_faults};
 ghost use Rattle.t1_faults.specs.Reading.{reading_fault};
 ghost use Rattle.t1_faults.specs.Telling.{IsAccountedFor, IsNamed, NamesFailing};
 ghost use Rattle.t1_faults.specs.Telling.{TellsComposites, TellsWord, runs_read};
@@ -61,4 +63,15 @@ pub fn reported_glyph_is_named()
 pub fn failing_glyphs_are_named()
     ensures { (bytes : List ℕ) (s : SourceParts) → reads bytes ≡ Ok s →
         NamesFailing s (source_faults bytes) }
+{}
+
+/// Each fault that is found in a source that was read stands in the entry of its place, on one of
+/// its lines, but for the file's own fault. It tells a word that is no number and no command, or
+/// the word at which a run fails, by the word's number in the entry; the calls of the run, and of
+/// those of its chains, lead there. Else it is told of the entry as a whole: of too many words, of
+/// a glyph's own body that ends too soon, or of a join.
+pub fn faults_stand_in_their_entries()
+    ensures { (bytes : List ℕ) (s : SourceParts) → reads bytes ≡ Ok s →
+        AllByRecursion
+        (StandsThere s (entries_in (parts_of (lines bytes)) s)) (source_faults bytes) }
 {}

@@ -9,8 +9,10 @@
 //!
 //! What is proved: `laws` say of the list of `source_faults`, which `t1edit faults` writes
 //! (`faults_on`): it is empty exactly where `check` passes; what `check` reports is in it, or its
-//! glyph stands on one that is, or its run met one in a Subr; that glyph is named in it; each word
-//! that it tells stands at its line and column, and each composite on a glyph that the fault names.
+//! glyph stands on one that is, or its run met one in a Subr; that glyph is named in it, and so is
+//! each one that fails, or a Subr that it misses; each fault stands in the entry of its place, and
+//! each word that is told at its line and column, that of a run by its number in the entry; each
+//! composite that is told stands on a glyph that the fault names.
 #![tactic(auto)]
 
 mod call_chains;
