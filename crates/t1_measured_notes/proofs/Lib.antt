@@ -1,3 +1,4 @@
+pub mod NoteFactLaws
 pub mod Numbering
 pub mod Reach
 pub mod Unused

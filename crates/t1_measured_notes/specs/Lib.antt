@@ -1,2 +1,3 @@
 pub mod MeasuredNotes
+pub mod NoteFacts
 pub mod UnusedByLine

@@ -2,11 +2,12 @@
 //! the glyphs, and a glyph that reaches past ±16,000.
 //!
 //! [`measured_notes`] finds them in a source without a fault; [`all_notes`] has those of `t1_notes`
-//! too. Both are for the program.
+//! too. Both are for the program. [`laws`] says what the notes mean.
 #![tactic(auto)]
 
 mod boxes;
 mod entered;
+pub mod laws;
 mod measured;
 mod subrs;
 mod wide;
