@@ -32,7 +32,7 @@ run_codes = (
 abbrev pub disassembling : List ℕ × List (List ℕ)
 disassembling = (
   codes "Faults of disassembling a font's file",
-  codes "D1" ∷ codes "D2" ∷ codes "D3" ∷ codes "D4" ∷ codes "D5" ∷ codes "D6" ∷ codes "D7" ∷ codes "D8" ∷ codes "D9" ∷ codes "D10" ∷ codes "D11" ∷ codes "D12" ∷ codes "D13" ∷ [],
+  codes "D1" ∷ codes "D2" ∷ codes "D3" ∷ codes "D4" ∷ codes "D5" ∷ codes "D6" ∷ codes "D7" ∷ codes "D8" ∷ codes "D9" ∷ codes "D10" ∷ codes "D11" ∷ codes "D12" ∷ codes "D13" ∷ codes "D14" ∷ codes "D15" ∷ codes "D16" ∷ codes "D17" ∷ [],
 )
 
 -- profile: the notes on a source

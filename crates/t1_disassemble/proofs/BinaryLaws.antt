@@ -21,7 +21,8 @@ use Rattle.t1_disassemble.specs.Outcome.{font_fault_at, font_reported_at}
 use Rattle.t1_disassemble.specs.PiecesOnto.{private_onto}
 use Rattle.t1_disassemble.specs.SegmentsRead.{FontParts}
 use Rattle.t1_disassemble.specs.Settings.{reading_operator, leading_bytes}
-use Rattle.t1_disassemble.specs.SourceOnto.{plain_onto, source_onto, binary_onto, counted_private, segmented_source, flat_source, counted_onto, flat_onto}
+use Rattle.t1_disassemble.specs.SourceOnto.{plain_onto, source_onto, binary_onto, segmented_source, flat_source, counted_onto, flat_onto}
+use Rattle.t1_disassemble.proofs.Sources.{all_stand}
 use Rattle.t1_disassemble.proofs.WholeLaws.{unchanged, tail_again}
 
 -- ---- where the encrypted bytes begin
@@ -62,8 +63,8 @@ same_after (Ok x) f g h = h x
 same_after (Err fault) f g h = refl
 
 -- the lines that were read, with those of a tail
-abbrev with_tail : List ℕ → List ℕ → List ℕ × List ℕ → Result (List ℕ) FontFault
-with_tail text tail private = single_sections (drop (length text) private.0) >>= λ single. Ok (private.0 ++ joined (tail_of (lines tail)))
+abbrev with_tail : ℕ → List ℕ → List ℕ → List ℕ → List ℕ × List ℕ → Result (List ℕ) FontFault
+with_tail lead text plain tail private = single_sections (drop (length text) private.0) >>= λ single. all_stand lead plain >>= λ kept. Ok (private.0 ++ joined (tail_of (lines tail)))
 
 pub binary_same : (text clear segments tail coded : List ℕ) → is_hexadecimal coded ≡ false → 0 < length segments
     → source_onto text (record { clear = clear; coded = segments; tail = tail }) coded ≡ binary_onto text tail (decrypted_private coded)
@@ -74,12 +75,12 @@ binary_same text clear segments tail coded off some =
     let left = λ (private : List ℕ × List ℕ). tail_after parts coded (4 + (length plain - length private.1)) in
     ap (λ (b : List ℕ). plain_onto text parts coded (decrypted_private b)) (unchanged coded off)
     ∙ same_after (font_reported_at Nowhere (leading_bytes (lines plain)))
-    (λ lead. with_digits (coded_place parts coded) coded (read lead) >>= λ private. with_tail text (left private) private)
-    (λ lead. read lead >>= λ private. with_tail text tail private)
+    (λ lead. with_digits (coded_place parts coded) coded (read lead) >>= λ private. with_tail lead text plain (left private) private)
+    (λ lead. read lead >>= λ private. with_tail lead text plain tail private)
     (λ lead.
-    ap (λ (r : Result (List ℕ × List ℕ) FontFault). r >>= λ private. with_tail text (left private) private) (digits_none (coded_place parts coded) coded (read lead) off)
-    ∙ same_after (read lead) (λ private. with_tail text (left private) private) (λ private. with_tail text tail private)
-    (λ private. ap (λ (t : List ℕ). with_tail text t private) (tail_again clear segments tail coded (4 + (length plain - length private.1)) some)))
+    ap (λ (r : Result (List ℕ × List ℕ) FontFault). r >>= λ private. with_tail lead text plain (left private) private) (digits_none (coded_place parts coded) coded (read lead) off)
+    ∙ same_after (read lead) (λ private. with_tail lead text plain (left private) private) (λ private. with_tail lead text plain tail private)
+    (λ private. ap (λ (t : List ℕ). with_tail lead text plain t private) (tail_again clear segments tail coded (4 + (length plain - length private.1)) some)))
 
 pub coded_in_segments : (text clear after coded tail : List ℕ) → past_spaces (after ++ coded) ≡ coded → is_hexadecimal coded ≡ false → 0 < length coded
     → source_onto text (record { clear = clear; coded = coded; tail = tail }) (past_spaces (after ++ coded)) ≡ binary_onto text tail (decrypted_private coded)
@@ -102,17 +103,21 @@ abbrev counted_tail : (ℕ → List ℕ) → List ℕ × ℕ → Result (List �
 counted_tail tail found = Ok (found.0 ++ joined (tail_of (lines (tail found.1))))
 
 counted_on : (text plain : List ℕ) (tail : ℕ → List ℕ)
-    → (font_reported_at Nowhere (leading_bytes (lines plain)) >>= λ lead. private_onto (reading_operator (lines plain)) lead text false plain >>= λ private. with_tail text (tail (length plain - length private.1)) private)
+    → (font_reported_at Nowhere (leading_bytes (lines plain)) >>= λ lead. private_onto (reading_operator (lines plain)) lead text false plain >>= λ private. with_tail lead text plain (tail (length plain - length private.1)) private)
     ≡ (counted_onto text plain >>= counted_tail tail)
 counted_on text plain tail =
     let read = λ (lead : ℕ). private_onto (reading_operator (lines plain)) lead text false plain in
-    let single = λ (private : List ℕ × List ℕ). single_sections (drop (length text) private.0) >>= λ single. Ok (private.0, length plain - length private.1) in
-    sym (then_then (font_reported_at Nowhere (leading_bytes (lines plain))) (λ lead. read lead >>= single) (counted_tail tail)
-    ∙ same_after (font_reported_at Nowhere (leading_bytes (lines plain))) (λ lead. (read lead >>= single) >>= counted_tail tail)
-    (λ lead. read lead >>= λ private. with_tail text (tail (length plain - length private.1)) private)
-    (λ lead. then_then (read lead) single (counted_tail tail)
-    ∙ same_after (read lead) (λ private. single private >>= counted_tail tail) (λ private. with_tail text (tail (length plain - length private.1)) private)
-    (λ private. then_then (single_sections (drop (length text) private.0)) (λ single. Ok (private.0, length plain - length private.1)) (counted_tail tail))))
+    let counted = λ (lead : ℕ) (private : List ℕ × List ℕ) (one : List ℕ). all_stand lead plain >>= λ kept. Ok (private.0, length plain - length private.1) in
+    let single = λ (lead : ℕ) (private : List ℕ × List ℕ). single_sections (drop (length text) private.0) >>= counted lead private in
+    sym (then_then (font_reported_at Nowhere (leading_bytes (lines plain))) (λ lead. read lead >>= single lead) (counted_tail tail)
+    ∙ same_after (font_reported_at Nowhere (leading_bytes (lines plain))) (λ lead. (read lead >>= single lead) >>= counted_tail tail)
+    (λ lead. read lead >>= λ private. with_tail lead text plain (tail (length plain - length private.1)) private)
+    (λ lead. then_then (read lead) (single lead) (counted_tail tail)
+    ∙ same_after (read lead) (λ private. single lead private >>= counted_tail tail) (λ private. with_tail lead text plain (tail (length plain - length private.1)) private)
+    (λ private. then_then (single_sections (drop (length text) private.0)) (counted lead private) (counted_tail tail)
+    ∙ same_after (single_sections (drop (length text) private.0)) (λ one. counted lead private one >>= counted_tail tail)
+    (λ one. all_stand lead plain >>= λ kept. counted_tail tail (private.0, length plain - length private.1))
+    (λ one. then_then (all_stand lead plain) (λ kept. Ok (private.0, length plain - length private.1)) (counted_tail tail)))))
 
 segmented_same : (tail plain : List ℕ) → binary_onto [] tail plain ≡ segmented_source tail plain
 segmented_same tail plain = counted_on [] plain (λ count. tail)
@@ -135,12 +140,12 @@ flat_on text clear tail coded off =
     let behind = λ (private : List ℕ × List ℕ). drop (4 + (length plain - length private.1)) coded in
     ap (λ (b : List ℕ). plain_onto text parts coded (decrypted_private b)) (unchanged coded off)
     ∙ same_after (font_reported_at Nowhere (leading_bytes (lines plain)))
-    (λ lead. with_digits (coded_place parts coded) coded (read lead) >>= λ private. with_tail text (left private) private)
-    (λ lead. read lead >>= λ private. with_tail text (behind private) private)
+    (λ lead. with_digits (coded_place parts coded) coded (read lead) >>= λ private. with_tail lead text plain (left private) private)
+    (λ lead. read lead >>= λ private. with_tail lead text plain (behind private) private)
     (λ lead.
-    ap (λ (r : Result (List ℕ × List ℕ) FontFault). r >>= λ private. with_tail text (left private) private) (digits_none (coded_place parts coded) coded (read lead) off)
-    ∙ same_after (read lead) (λ private. with_tail text (left private) private) (λ private. with_tail text (behind private) private)
-    (λ private. ap (λ (t : List ℕ). with_tail text t private) (behind_binary coded (4 + (length plain - length private.1)) off)))
+    ap (λ (r : Result (List ℕ × List ℕ) FontFault). r >>= λ private. with_tail lead text plain (left private) private) (digits_none (coded_place parts coded) coded (read lead) off)
+    ∙ same_after (read lead) (λ private. with_tail lead text plain (left private) private) (λ private. with_tail lead text plain (behind private) private)
+    (λ private. ap (λ (t : List ℕ). with_tail lead text plain t private) (behind_binary coded (4 + (length plain - length private.1)) off)))
     ∙ counted_on text plain (λ count. drop (4 + count) coded)
 
 pub flat_same : (clear tail coded : List ℕ) → is_hexadecimal coded ≡ false → source_onto [] (record { clear = clear; coded = []; tail = tail }) coded ≡ flat_source coded
@@ -155,12 +160,12 @@ parts_same text p q coded place tail =
     let read = λ (n : ℕ) (lead : ℕ). with_digits n coded (private_onto (reading_operator (lines plain)) lead text false plain) in
     let left = λ (parts : FontParts) (private : List ℕ × List ℕ). tail_after parts coded (4 + (length plain - length private.1)) in
     same_after (font_reported_at Nowhere (leading_bytes (lines plain)))
-    (λ lead. read (coded_place p coded) lead >>= λ private. with_tail text (left p private) private)
-    (λ lead. read (coded_place q coded) lead >>= λ private. with_tail text (left q private) private)
+    (λ lead. read (coded_place p coded) lead >>= λ private. with_tail lead text plain (left p private) private)
+    (λ lead. read (coded_place q coded) lead >>= λ private. with_tail lead text plain (left q private) private)
     (λ lead.
-    ap (λ (n : ℕ). read n lead >>= λ private. with_tail text (left p private) private) place
-    ∙ same_after (read (coded_place q coded) lead) (λ private. with_tail text (left p private) private) (λ private. with_tail text (left q private) private)
-    (λ private. ap (λ (t : List ℕ). with_tail text t private) (tail (4 + (length plain - length private.1)))))
+    ap (λ (n : ℕ). read n lead >>= λ private. with_tail lead text plain (left p private) private) place
+    ∙ same_after (read (coded_place q coded) lead) (λ private. with_tail lead text plain (left p private) private) (λ private. with_tail lead text plain (left q private) private)
+    (λ private. ap (λ (t : List ℕ). with_tail lead text plain t private) (tail (4 + (length plain - length private.1)))))
 
 pub whole_parts : (clear front segments tail whole : List ℕ) (len : ℕ) → len ≤ length clear → 0 < length segments → front ≡ take len clear → whole ≡ drop len clear ++ segments
     → source_onto (joined (lines (take len clear))) (record { clear = clear; coded = segments; tail = tail }) (past_spaces (drop len clear ++ segments))

@@ -35,7 +35,8 @@ use Rattle.t1_disassemble.specs.SegmentsRead.{FontParts}
 use Rattle.t1_disassemble.specs.Settings.{reading_operator, leading_bytes}
 use Rattle.t1_disassemble.specs.SourceOnto.{source_onto}
 use Rattle.t1_disassemble.specs.Words.{words_of_encrypted, printed_words}
-use Rattle.t1_disassemble.proofs.Sources.{source_same}
+use Rattle.t1_disassemble.specs.Standing.{Standing, fresh, judged, lost_place, kept, all_kept}
+use Rattle.t1_disassemble.proofs.Sources.{all_stand, source_same}
 
 -- ---- faults that have no byte for a place, but for one
 
@@ -113,10 +114,24 @@ only_single n text = from (has_second subrs_line (lines text) || has_second glyp
   from true = tt
   from false = tt
 
+only_lost : (n : ℕ) (name : List ℕ) → OnlyAt n (lost_place name)
+only_lost n [] = tt
+only_lost n (c ∷ name) = tt
+
+only_kept : (n : ℕ) (s : Standing) → Only n (all_kept s)
+unfolding all_kept
+only_kept n s = from s.lost s.lacks_subrs s.lacks_glyphs (s.reads.is_other || s.leads.is_other) where
+  from : (lost : Option (List ℕ)) (subrs glyphs other : Bool) → Only {X = Unit {0}} n (kept lost subrs glyphs other)
+  from (Some name) subrs glyphs other = only_lost n name
+  from None true glyphs other = tt
+  from None false true other = tt
+  from None false false true = tt
+  from None false false false = tt
+
 -- the lines that were read, and those of the tail
-abbrev ended : FontParts → List ℕ → List ℕ → List ℕ × List ℕ → Result (List ℕ) FontFault
-ended parts coded plain private =
-    single_sections private.0 >>= λ single. Ok (private.0 ++ joined (tail_of (lines (tail_after parts coded (4 + (length plain - length private.1))))))
+abbrev ended : ℕ → FontParts → List ℕ → List ℕ → List ℕ × List ℕ → Result (List ℕ) FontFault
+ended lead parts coded plain private =
+    single_sections private.0 >>= λ single. all_stand lead plain >>= λ kept. Ok (private.0 ++ joined (tail_of (lines (tail_after parts coded (4 + (length plain - length private.1))))))
 
 only_source : (parts : FontParts) (coded : List ℕ) → Only (coded_place parts coded + digits_len coded) (coded_source parts coded)
 only_source parts coded =
@@ -124,13 +139,13 @@ only_source parts coded =
     let place = coded_place parts coded in
     let n = place + digits_len coded in
     let read = λ (lead : ℕ). with_digits place coded (read_private_text (reading_operator (lines plain)) lead plain) in
-    only_then n (font_reported_at Nowhere (leading_bytes (lines plain))) (λ lead. read lead >>= ended parts coded plain)
+    only_then n (font_reported_at Nowhere (leading_bytes (lines plain))) (λ lead. read lead >>= ended lead parts coded plain)
     (only_nowhere n (leading_bytes (lines plain)))
     (λ lead.
-    only_then n (read lead) (ended parts coded plain) (only_digits place coded (read_private_text (reading_operator (lines plain)) lead plain) (only_private n (reading_operator (lines plain)) lead plain))
+    only_then n (read lead) (ended lead parts coded plain) (only_digits place coded (read_private_text (reading_operator (lines plain)) lead plain) (only_private n (reading_operator (lines plain)) lead plain))
     (λ private.
-    only_then n (single_sections private.0) (λ single. Ok (private.0 ++ joined (tail_of (lines (tail_after parts coded (4 + (length plain - length private.1)))))))
-    (only_single n private.0) (λ single. tt)))
+    let behind = λ (kept : Unit {0}). Ok (private.0 ++ joined (tail_of (lines (tail_after parts coded (4 + (length plain - length private.1)))))) in
+    only_then n (single_sections private.0) (λ single. all_stand lead plain >>= behind) (only_single n private.0) (λ single. only_then n (all_stand lead plain) behind (only_kept n (judged (reading_operator (lines plain)) lead plain false (fresh (reading_operator (lines plain)) lead))) (λ kept. tt))))
 
 pub only_cut : (text : List ℕ) (parts : FontParts) (coded : List ℕ) → Only (coded_place parts coded + digits_len coded) (source_onto text parts coded)
 only_cut text parts coded =

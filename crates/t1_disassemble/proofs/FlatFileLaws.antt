@@ -25,6 +25,8 @@ use Rattle.t1_disassemble.specs.Settings.{reading_operator, leading_bytes}
 use Rattle.t1_disassemble.proofs.Deciphering.{deciphered_cipher, deciphered-append}
 use Rattle.t1_disassemble.proofs.ItemLaws.{private_again}
 use Rattle.t1_disassemble.proofs.PlainWords.{joined-append}
+use Rattle.t1_disassemble.specs.Standing.{stands}
+use Rattle.t1_disassemble.proofs.JudgedItems.{stands_again}
 use Rattle.t1_disassemble.proofs.WholeLaws.{eexec_coded, items_say, clear_again, before_again, private_of, plain_again, kind_again, single_after, spaces_none, binary, unchanged}
 
 -- what stands after the encrypted bytes decrypts to more bytes after the private text
@@ -73,6 +75,7 @@ flat_again clear operator lead items last bytes trailer coded more is made no_ma
     ∙ ap (plain_onto (joined clear) parts coded) plain
     ∙ plain_again (joined clear) parts coded (private ++ more) operator all more lead (ap (λ l. leading_bytes (lines l)) grouped ∙ says.1 ∙ is.said.leads) (ap (λ l. reading_operator (lines l)) grouped ∙ says.0 ∙ is.said.reads)
     (ap (private_onto operator lead (joined clear) false) ended ∙ private_again operator lead items bytes (joined clear) last more is.said.name is.said.small is.each made is.end.line is.end.none is.end.closes) (single_after (joined clear) (joined (source_lines items last)) is.single)
+    (ap (stands operator lead) ended ∙ stands_again operator lead items bytes last more is.said.name is.said.small is.each made is.end.line is.end.none is.end.closes is.kept)
     ∙ ap (λ t. Ok (all ++ joined (tail_of (lines t)))) tail)
 
 -- ---- the encrypted part in binary

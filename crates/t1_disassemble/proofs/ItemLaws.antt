@@ -1,19 +1,16 @@
 -- The items of an assembled private text read back.
-use Rattle.std.proofs.Common.{◌≡◌, ℕ, suc, true, false, not, ◌&&◌, ◌^◌, ◌≤◌, ◌<◌, List, [], ◌∷◌, ◌++◌, length, map, drop, reverse, codes, Option, None, Some, Result, Ok, Err, refl, sym, ap, subst, ◌∙◌, append-nil, append_assoc, arith}
-use Rattle.std.proofs.lemmas.Bool.{and_parts, and_from, le-leb, leb-true, not-true, ltb-true}
-use Rattle.std.proofs.lemmas.Fmt.{length-decimal-le}
+use Rattle.std.proofs.Common.{◌≡◌, ℕ, suc, true, false, not, ◌&&◌, ◌^◌, ◌-◌, ◌≤◌, ◌<◌, min, List, [], ◌∷◌, ◌++◌, length, map, drop, reverse, codes, Option, None, Some, Result, Ok, Err, refl, sym, ap, subst, ◌∙◌, append-nil, append_assoc, arith}
+use Rattle.std.proofs.lemmas.Bool.{and_parts, leb-true, not-true, ltb-true}
 use Rattle.std.proofs.lemmas.Slice.Eq.{bytes_eq-Decides}
-use Rattle.std.specs.Char.{is_ascii_digit}
 use Rattle.std.specs.Fmt.{decimal}
 use Rattle.std.specs.List.{list_all, prefix_len, flat_map}
 use Rattle.std.specs.Prelude.{is_none, nat_le, nat_lt}
 use Rattle.std.specs.Str.{bytes_eq}
 use Rattle.t1_frac.specs.Outcome.{◌>>=◌}
-use Rattle.t1_frac.specs.Numbers.{decimal_value}
 use Rattle.t1_frac.specs.Words.{is_blank, trimmed_front}
 use Rattle.t1_frac.specs.declared.fault.Code.{Code}
 use Rattle.t1_text.specs.Lines.{is_line, joined, trimmed}
-use Rattle.t1_text.specs.Names.{is_count, is_name, is_name_byte}
+use Rattle.t1_text.specs.Names.{decimal_of, is_name, is_name_byte}
 use Rattle.t1_text.specs.Tokens.{places_from}
 use Rattle.t1_text.proofs.NumberLaws.{decimal_spells, spelled}
 use Rattle.t1_code.specs.Cipher.{encrypted_words}
@@ -26,7 +23,7 @@ use Rattle.t1_parts.proofs.EntryLaws.{digits_regular, name_regular}
 use Rattle.t1_disassemble.specs.declared.fault.FontFault.{FontFault}
 use Rattle.t1_disassemble.specs.Laws.{plain_word, plain_item, item_text, items_text, reads_line, reads_closing, reads_item}
 use Rattle.t1_disassemble.specs.Layouts.{begins_border}
-use Rattle.t1_disassemble.specs.Opening.{Opening, first_opening}
+use Rattle.t1_disassemble.specs.Opening.{Opening, length_said, first_opening}
 use Rattle.t1_disassemble.specs.PiecesOnto.{private_onto}
 use Rattle.t1_disassemble.specs.PrivateText.{head_line}
 use Rattle.t1_disassemble.specs.Words.{words_of_encrypted, printed_words}
@@ -36,17 +33,17 @@ use Rattle.t1_disassemble.proofs.PlainWords.{Compiled, compiled, encrypted_again
 
 -- ---- lines that read as themselves
 
-none_of : (o : Option Opening) → is_none o ≡ true → o ≡ None
+pub none_of : (o : Option Opening) → is_none o ≡ true → o ≡ None
 none_of None h = refl
 none_of (Some o) h = absurd (cc)
 
-record Reads (operator line : List ℕ) : Type 0 where
-  whole : is_line line ≡ true
-  none : first_opening operator (places_from 0 line) ≡ None
-  stays : is_closefile line ≡ false
-  alone : begins_border line ≡ false
+pub record Reads (operator line : List ℕ) : Type 0 where
+  pub whole : is_line line ≡ true
+  pub none : first_opening operator (places_from 0 line) ≡ None
+  pub stays : is_closefile line ≡ false
+  pub alone : begins_border line ≡ false
 
-reads : (operator line : List ℕ) → reads_line operator line ≡ true → Reads operator line
+pub reads : (operator line : List ℕ) → reads_line operator line ≡ true → Reads operator line
 reads operator line h =
     let found = first_opening operator (places_from 0 line) in
     let all = and_parts (is_line line && is_none found && not (is_closefile line)) (not (begins_border line)) h in
@@ -88,7 +85,7 @@ closing_gives operator lead text closing rest h =
 six : (a b c d e f rest : List ℕ) → (((((a ++ b) ++ c) ++ d) ++ e) ++ f) ++ rest ≡ a ++ (b ++ (c ++ (d ++ (e ++ (f ++ rest)))))
 six a b c d e f rest = simp append_assoc
 
-entry_regrouped : (name operator code closing rest : List ℕ)
+pub entry_regrouped : (name operator code closing rest : List ℕ)
     → entry_text name operator code closing ++ rest ≡ three name (decimal (length code)) operator ++ (code ++ (closing_text closing ++ 10 ∷ rest))
 entry_regrouped name operator code closing rest =
     six name (32 ∷ decimal (length code)) (32 ∷ operator) (32 ∷ code) (closing_text closing) (10 ∷ []) rest
@@ -103,14 +100,12 @@ entry_gives operator lead name code closing ws end is said closes text rest =
     ∙ closing_gives operator lead all closing rest closes
     ∙ ap (λ t. private_onto operator lead t false rest) (entry_printed text name ws closing)
 
-decimal_counts : (n : ℕ) → n < 10 ^ 9 → (is_count (decimal n) ≡ true) × IsToken (decimal n) × (decimal_value (decimal n) ≡ n)
+pub decimal_counts : (n : ℕ) → n < 10 ^ 9 → (decimal_of (decimal n) ≡ Some n) × IsToken (decimal n) × (length_said (decimal n) ≡ n)
 decimal_counts n h =
-    let s = decimal_spells n (omega (arith, h)) in
-    let size = length-decimal-le 9 n (omega arith) h (omega (arith, h)) in (
-      and_from (nat_le 1 (length (decimal n)) && nat_le (length (decimal n)) 9) (list_all is_ascii_digit (decimal n))
-          (and_from (nat_le 1 (length (decimal n))) (nat_le (length (decimal n)) 9) (le-leb 1 (length (decimal n)) s.2) (le-leb (length (decimal n)) 9 size)) s.0,
+    let s = decimal_spells n (omega (arith, h)) in (
+      spelled (decimal n) n s,
       regular_token (decimal n) s.2 (digits_regular (decimal n) s.0),
-      s.1,
+      ap (λ (k : ℕ). min k (2 ^ 64 - 1)) s.1 ∙ omega (arith, h),
     )
 
 -- a name is a token, and so is one after a slash
@@ -123,17 +118,17 @@ name_bytes n h =
 pub name_token : (n : List ℕ) → is_name n ≡ true → IsToken n
 name_token n h = let parts = name_bytes n h in regular_token n parts.0 (name_regular n parts.1)
 
-slashed_token : (n : List ℕ) → is_name n ≡ true → IsToken (47 ∷ n)
+pub slashed_token : (n : List ℕ) → is_name n ≡ true → IsToken (47 ∷ n)
 slashed_token n h = (refl, refl, refl, name_regular n (name_bytes n h).1)
 
 -- the words of a compiled body, in their plain spelling
-said_again : (lead : ℕ) (words : List (List ℕ)) (code : List ℕ) → Compiled lead words code → words_of_encrypted lead code ≡ Ok (map plain_word words)
+pub said_again : (lead : ℕ) (words : List (List ℕ)) (code : List ℕ) → Compiled lead words code → words_of_encrypted lead code ≡ Ok (map plain_word words)
 said_again lead words code c = ap (words_of_encrypted lead) c.is ∙ encrypted_again lead words c.cs c.read ∙ ap Ok (plain_said words c.cs c.read)
 
-code_short : (lead : ℕ) (words : List (List ℕ)) (code : List ℕ) → lead ≤ 64 → Compiled lead words code → length code < 10 ^ 9
+pub code_short : (lead : ℕ) (words : List (List ℕ)) (code : List ℕ) → lead ≤ 64 → Compiled lead words code → length code < 10 ^ 9
 code_short lead words code small c = omega (arith, ap length c.is, short_code lead words c.cs small c.read)
 
-counted_as : (operator head name : List ℕ) (m n end : ℕ) → m ≡ n → Opens operator head name m end → Opens operator head name n end
+pub counted_as : (operator head name : List ℕ) (m n end : ℕ) → m ≡ n → Opens operator head name m end → Opens operator head name n end
 counted_as operator head name m n end e o = subst (λ (k : ℕ). Opens operator head name k end) e o
 
 glyph_gives : (operator : List ℕ) (lead : ℕ) (name : List ℕ) (words : List (List ℕ)) (closing code : List ℕ) → is_name operator ≡ true → lead ≤ 64 → is_name name ≡ true → reads_closing operator closing ≡ true
@@ -141,7 +136,7 @@ glyph_gives : (operator : List ℕ) (lead : ℕ) (name : List ℕ) (words : List
 glyph_gives operator lead name words closing code op small named closes e =
     let c = compiled lead words code e in
     let counts = decimal_counts (length code) (code_short lead words code small c) in
-    let opens = glyph_opens operator (47 ∷ name) (decimal (length code)) (name_token operator op) (slashed_token name named) refl counts.1 counts.0 in
+    let opens = glyph_opens operator (47 ∷ name) (decimal (length code)) (length code) (name_token operator op) (slashed_token name named) refl counts.1 counts.0 in
     entry_gives operator lead (47 ∷ name) code closing (map plain_word words) _ (counted_as operator (three (47 ∷ name) (decimal (length code)) operator) (47 ∷ name) _ (length code) _ counts.2 opens) (said_again lead words code c) closes
 
 subr_gives : (operator : List ℕ) (lead number : ℕ) (words : List (List ℕ)) (closing code : List ℕ) → is_name operator ≡ true → lead ≤ 64 → number < 2 ^ 64 → reads_closing operator closing ≡ true
@@ -151,7 +146,7 @@ subr_gives operator lead number words closing code op small fits closes e =
     let counts = decimal_counts (length code) (code_short lead words code small c) in
     let s = decimal_spells number fits in
     let name = codes "dup " ++ decimal number in
-    let opens = subr_opens operator (decimal number) (decimal (length code)) number (name_token operator op) (regular_token (decimal number) s.2 (digits_regular (decimal number) s.0)) (spelled (decimal number) number s) counts.1 counts.0 in
+    let opens = subr_opens operator (decimal number) (decimal (length code)) number (length code) (name_token operator op) (regular_token (decimal number) s.2 (digits_regular (decimal number) s.0)) (spelled (decimal number) number s) counts.1 counts.0 in
     entry_gives operator lead name code closing (map plain_word words) _ (counted_as operator (three name (decimal (length code)) operator) name _ (length code) _ counts.2 opens) (said_again lead words code c) closes
 
 -- ---- items

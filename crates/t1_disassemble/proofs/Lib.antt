@@ -17,6 +17,7 @@ pub mod Fronts
 pub mod InPlaceLaws
 pub mod InPlaceSources
 pub mod ItemLaws
+pub mod JudgedItems
 pub mod KindLaws
 pub mod KnownWordLaws
 pub mod LastLaws
@@ -36,6 +37,7 @@ pub mod SlashLaws
 pub mod SmallNumbers
 pub mod SoundWordLaws
 pub mod Sources
+pub mod StandingLaws
 pub mod WaitingLaws
 pub mod WholeLaws
 pub mod WordLaws

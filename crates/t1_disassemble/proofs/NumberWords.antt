@@ -8,7 +8,6 @@ use Rattle.t1_frac.specs.Numbers.{is_number_word}
 use Rattle.t1_frac.specs.Outcome.{◌>>=◌}
 use Rattle.t1_text.proofs.NumberLaws.{decimal_spells, digits_word, minus_word}
 use Rattle.t1_disassemble.specs.KnownNumbers.{signed_digits}
-use Rattle.t1_disassemble.specs.KnownWords.{HasBlank}
 use Rattle.t1_disassemble.specs.Words.{word_at}
 use Rattle.t1_disassemble.specs.WordsOnto.{put_first, with_word}
 use Rattle.t1_disassemble.specs.declared.fault.FontCode.{FontCode}

@@ -6,15 +6,14 @@ use Rattle.std.proofs.lemmas.Slice.Eq.{bytes_eq-Decides}
 use Rattle.std.specs.Prelude.{is_none}
 use Rattle.std.specs.Str.{bytes_eq}
 use Rattle.t1_frac.specs.Outcome.{◌>>=◌}
-use Rattle.t1_frac.specs.Numbers.{decimal_value}
 use Rattle.t1_text.specs.Lines.{is_line, begins_with}
-use Rattle.t1_text.specs.Names.{is_count, decimal_of}
+use Rattle.t1_text.specs.Names.{decimal_of}
 use Rattle.t1_text.specs.Tokens.{places_from}
 use Rattle.t1_parts.specs.Parts.{is_closefile}
 use Rattle.t1_disassemble.specs.declared.fault.FontFault.{FontFault}
 use Rattle.t1_disassemble.specs.Front.{front_line, past_line}
 use Rattle.t1_disassemble.specs.Layouts.{is_border, begins_border, one_line, are_one}
-use Rattle.t1_disassemble.specs.Opening.{Opening, glyph_opening, subr_opening, subr_here, opening_here, or_other, first_opening}
+use Rattle.t1_disassemble.specs.Opening.{Opening, length_said, glyph_opening, subr_opening, subr_here, opening_here, or_other, first_opening}
 use Rattle.t1_disassemble.specs.PiecesOnto.{entry_left, entry_onto, piece_onto, read_onto, private_onto}
 use Rattle.t1_disassemble.specs.PrivateText.{PieceRead, plain_text, head_line, goes_on, source_line, past_source_line}
 use Rattle.t1_disassemble.specs.Settings.{heads_section}
@@ -33,7 +32,7 @@ never_border : (a b c d : Bool) → a ≡ true → (not a && b && c && d) ≡ fa
 never_border a b c d h = rw h refl
 
 -- it may not go on, or is a border by itself
-abbrev Alone : List ℕ → Type 0
+abbrev pub Alone : List ℕ → Type 0
 Alone line = (begins_border line ≡ false) ⊎ (is_border line ≡ true)
 
 not_one : (l m : List ℕ) → Alone l → are_one l m ≡ false
@@ -47,13 +46,13 @@ stays_one operator line rest whole alone =
     ap (λ (l : List ℕ). are_one l next && is_none (first_opening operator (places_from 0 next))) (line_front line rest whole)
     ∙ ap (λ (one : Bool). one && is_none (first_opening operator (places_from 0 next))) (not_one line next alone)
 
-source_again : (operator line rest : List ℕ) → is_line line ≡ true → Alone line → source_line operator (line ++ 10 ∷ rest) ≡ line
+pub source_again : (operator line rest : List ℕ) → is_line line ≡ true → Alone line → source_line operator (line ++ 10 ∷ rest) ≡ line
 source_again operator line rest whole alone = rw (stays_one operator line rest whole alone) (line_front line rest whole)
 
-past_again : (operator line rest : List ℕ) → is_line line ≡ true → Alone line → past_source_line operator (line ++ 10 ∷ rest) ≡ rest
+pub past_again : (operator line rest : List ℕ) → is_line line ≡ true → Alone line → past_source_line operator (line ++ 10 ∷ rest) ≡ rest
 past_again operator line rest whole alone = rw (stays_one operator line rest whole alone) (line_past line rest whole)
 
-closes_alone : (line : List ℕ) → is_closefile line ≡ true → Alone line
+pub closes_alone : (line : List ℕ) → is_closefile line ≡ true → Alone line
 closes_alone line h = inr (elim (cases_Bool (heads_section line)) [
   | inl t ↦ rw t refl
   | inr f ↦ rw f h
@@ -144,9 +143,9 @@ three_size name digits operator =
 space_line : (t rest : List ℕ) → is_line t ≡ true → is_line rest ≡ true → is_line (t ++ 32 ∷ rest) ≡ true
 space_line t rest p q = lines_parts t (32 ∷ rest) p q
 
-pub glyph_opens : (operator name digits : List ℕ) → IsToken operator → IsToken name → begins_with 47 name ≡ true → IsToken digits → is_count digits ≡ true
-    → Opens operator (three name digits operator) name (decimal_value digits) (0 + length name + 1 + length digits + 1 + length operator)
-glyph_opens operator name digits op named slashed counts counted = record {
+pub glyph_opens : (operator name digits : List ℕ) (size : ℕ) → IsToken operator → IsToken name → begins_with 47 name ≡ true → IsToken digits → decimal_of digits ≡ Some size
+    → Opens operator (three name digits operator) name (length_said digits) (0 + length name + 1 + length digits + 1 + length operator)
+glyph_opens operator name digits size op named slashed counts counted = record {
   line = space_line name (digits ++ 32 ∷ (operator ++ 32 ∷ [])) (token_line name named) (space_line digits (operator ++ 32 ∷ []) (token_line digits counts) (space_line operator [] (token_line operator op) refl));
   size = omega (arith, three_size name digits operator);
   opens = λ rest.
@@ -160,7 +159,7 @@ glyph_opens operator name digits op named slashed counts counted = record {
       let one : xs ≡ a ∷ ys = ap (places_from 0) (three_more name digits operator rest) ∙ token_place 0 name (digits ++ 32 ∷ (operator ++ 32 ∷ rest)) named in
       let two : ys ≡ b ∷ zs = token_place (0 + length name + 1) digits (operator ++ 32 ∷ rest) counts in
       let three : zs ≡ c ∷ ws = token_place (0 + length name + 1 + length digits + 1) operator rest op in
-      let o : Opening = record { at = 0; name = name; count = decimal_value digits; end = 0 + length name + 1 + length digits + 1 + length operator } in
+      let o : Opening = record { at = 0; name = name; count = length_said digits; end = 0 + length name + 1 + length digits + 1 + length operator } in
       let is : glyph_opening operator a b c ≡ Some o = rw (slashed, counted, same_bytes operator) refl in
       first_here operator xs ys a o one (here_glyph operator xs ys zs ws a b c o one two three is);
 }
@@ -168,10 +167,10 @@ glyph_opens operator name digits op named slashed counts counted = record {
 dup : List ℕ
 dup = codes "dup"
 
-pub subr_opens : (operator number digits : List ℕ) (n : ℕ) → IsToken operator → IsToken number → decimal_of number ≡ Some n → IsToken digits → is_count digits ≡ true
-    → Opens operator (three (codes "dup " ++ number) digits operator) (codes "dup " ++ number) (decimal_value digits) (0 + 3 + 1 + length number + 1 + length digits + 1 + length operator)
+pub subr_opens : (operator number digits : List ℕ) (n size : ℕ) → IsToken operator → IsToken number → decimal_of number ≡ Some n → IsToken digits → decimal_of digits ≡ Some size
+    → Opens operator (three (codes "dup " ++ number) digits operator) (codes "dup " ++ number) (length_said digits) (0 + 3 + 1 + length number + 1 + length digits + 1 + length operator)
 unfolding dup
-subr_opens operator number digits n op numbered is_number counts counted = record {
+subr_opens operator number digits n size op numbered is_number counts counted = record {
   line = lines_parts (codes "dup ") (number ++ 32 ∷ (digits ++ 32 ∷ (operator ++ 32 ∷ []))) refl
       (space_line number (digits ++ 32 ∷ (operator ++ 32 ∷ [])) (token_line number numbered) (space_line digits (operator ++ 32 ∷ []) (token_line digits counts) (space_line operator [] (token_line operator op) refl)));
   size = omega (arith, three_size (codes "dup " ++ number) digits operator);
@@ -190,7 +189,7 @@ subr_opens operator number digits n op numbered is_number counts counted = recor
       let two : ys ≡ b ∷ zs = token_place (0 + 3 + 1) number behind numbered in
       let three : zs ≡ c ∷ ws = token_place (0 + 3 + 1 + length number + 1) digits (operator ++ 32 ∷ rest) counts in
       let four : ws ≡ d ∷ vs = token_place (0 + 3 + 1 + length number + 1 + length digits + 1) operator rest op in
-      let o : Opening = record { at = 0; name = codes "dup " ++ number; count = decimal_value digits; end = 0 + 3 + 1 + length number + 1 + length digits + 1 + length operator } in
+      let o : Opening = record { at = 0; name = codes "dup " ++ number; count = length_said digits; end = 0 + 3 + 1 + length number + 1 + length digits + 1 + length operator } in
       let other : glyph_opening operator a b c ≡ None = refl in
       let is : subr_opening operator a b c d ≡ Some o = rw (is_number, counted, same_bytes operator) refl in
       let here : opening_here operator xs ≡ Some o =

@@ -31,7 +31,7 @@ dropped_twice count end bytes =
 -- ---- what a piece leaves
 
 -- some bytes are dropped, the first one among them
-opening_left : (operator : List ℕ) (c : ℕ) (bytes : List ℕ) (opening : Option Opening) → IsLeft bytes (opened_left operator (c ∷ bytes) opening)
+pub opening_left : (operator : List ℕ) (c : ℕ) (bytes : List ℕ) (opening : Option Opening) → IsLeft bytes (opened_left operator (c ∷ bytes) opening)
 opening_left operator c bytes None = elim (cases_Bool (goes_on operator (c ∷ bytes))) [
   | inl t ↦ rw t (first_gone c bytes (past_line (past_line (c ∷ bytes))) (left_twice (c ∷ bytes) (past_line (c ∷ bytes)) (past_line (past_line (c ∷ bytes))) (line_left (c ∷ bytes)) (line_left (past_line (c ∷ bytes))))
       (omega (arith, line_gone (c ∷ bytes) (omega arith), left_short (past_line (c ∷ bytes)) (past_line (past_line (c ∷ bytes))) (line_left (past_line (c ∷ bytes))))))

@@ -30,11 +30,13 @@ use Rattle.t1_disassemble.specs.Laws.{plain_item, items_text, reads_line, reads_
 use Rattle.t1_disassemble.specs.PiecesOnto.{private_onto}
 use Rattle.t1_disassemble.specs.SegmentsRead.{FontParts}
 use Rattle.t1_disassemble.specs.SourceOnto.{plain_onto, source_onto}
+use Rattle.t1_disassemble.specs.Standing.{stands}
 use Rattle.t1_disassemble.specs.Settings.{opens_section, said_on, lead_said, reading_operator, leading_bytes}
 use Rattle.t1_disassemble.proofs.Deciphering.{private_again as deciphered_again}
 use Rattle.t1_disassemble.proofs.FrontLaws.{line_front, line_past}
 use Rattle.t1_disassemble.proofs.Fronts.{eexec_more}
 use Rattle.t1_disassemble.proofs.ItemLaws.{private_again}
+use Rattle.t1_disassemble.proofs.JudgedItems.{stands_again}
 use Rattle.t1_disassemble.proofs.SegmentLaws.{pfb_again}
 use Rattle.t1_disassemble.proofs.Sources.{source_same}
 
@@ -178,8 +180,9 @@ private_of bytes last = bytes ++ (last ++ 10 ∷ [])
 
 pub plain_again : (text : List ℕ) (parts : FontParts) (coded plain operator made rest : List ℕ) (lead : ℕ) → leading_bytes (lines plain) ≡ Ok lead → reading_operator (lines plain) ≡ operator
     → private_onto operator lead text false plain ≡ Ok (made, rest) → single_sections (drop (length text) made) ≡ Ok (drop (length text) made)
+    → stands operator lead plain ≡ Ok tt
     → plain_onto text parts coded plain ≡ Ok (made ++ joined (tail_of (lines (tail_after parts coded (4 + (length plain - length rest))))))
-plain_again text parts coded plain operator made rest lead says reads is single = rw (says, reads, is, single) refl
+plain_again text parts coded plain operator made rest lead says reads is single stands = rw (says, reads, is, single, stands) refl
 
 pub tail_again : (clear coded tail bytes : List ℕ) (count : ℕ) → 0 < length coded → tail_after (record { clear = clear; coded = coded; tail = tail }) bytes count ≡ tail
 tail_again clear coded tail bytes count some = rw (ne_eqb (length coded) 0 (omega (arith, some))) refl
@@ -215,6 +218,7 @@ source_again clear operator lead items last bytes trailer is made =
     ∙ ap (plain_onto (joined clear) parts coded) (coded_again private).1
     ∙ plain_again (joined clear) parts coded private operator all [] lead (says.1 ∙ is.said.leads) (says.0 ∙ is.said.reads)
     (private_again operator lead items bytes (joined clear) last [] is.said.name is.said.small is.each made is.end.line is.end.none is.end.closes) (single_after (joined clear) (joined (source_lines items last)) is.single)
+    (stands_again operator lead items bytes last [] is.said.name is.said.small is.each made is.end.line is.end.none is.end.closes is.kept)
     ∙ ap (λ t. Ok (all ++ joined (tail_of (lines t)))) (tail_again (joined clear) coded trailer coded (4 + (length private - 0)) some)
 
 pub file_again : (size : ℕ) (clear : List (List ℕ)) (operator : List ℕ) (lead : ℕ) (items : List Item) (last bytes trailer : List ℕ) → 1 ≤ size → size < 2 ^ 32 → IsReadBack clear operator lead items last → items_text lead operator items ≡ Ok bytes

@@ -1,7 +1,7 @@
 -- A private text in hexadecimal that ends too early, since another byte stands among its digits.
 use Rattle.std.specs.Prelude.{ℕ, Bool, true, false, ◌&&◌, ◌+◌, nat_lt, if◌then◌else◌, List, length, Result, Ok, Err}
 use Rattle.t1_disassemble.specs.declared.fault.FontCode.{FontCode}
-use Rattle.t1_disassemble.specs.declared.fault.FontCode.TheVariants.{D1, D2, D3, D4, D5, D6, D7, D8, D9, D10, D11, D12, D13}
+use Rattle.t1_disassemble.specs.declared.fault.FontCode.TheVariants.{D1, D2, D3, D4, D5, D6, D7, D8, D9, D10, D11, D12, D13, D14, D15, D16, D17}
 use Rattle.t1_disassemble.specs.declared.fault.FontFault.{FontFault}
 use Rattle.t1_disassemble.specs.declared.fault.FontPlace.TheVariants.{Byte}
 use Rattle.t1_disassemble.specs.Digits.{is_hexadecimal, digits_len}
@@ -22,6 +22,10 @@ is_early D10 = false
 is_early D11 = false
 is_early D12 = false
 is_early D13 = false
+is_early D14 = false
+is_early D15 = false
+is_early D16 = false
+is_early D17 = false
 
 -- Type 1 Font Format, 7.2 (eexec): digits with another byte among them, before the end
 abbrev pub is_cut : List ℕ → Bool

@@ -16,6 +16,7 @@ use Rattle.t1_disassemble.specs.Outcome.{font_fault_at, font_reported_at}
 use Rattle.t1_disassemble.specs.PrivateText.{read_private_text}
 use Rattle.t1_disassemble.specs.SegmentsRead.{FontParts, font_parts}
 use Rattle.t1_disassemble.specs.Settings.{reading_operator, leading_bytes}
+use Rattle.t1_disassemble.specs.Standing.{stands}
 
 -- Type 1 Font Format, 7.2 (eexec): the encrypted bytes, of their digits where they are in hexadecimal
 abbrev pub coded_bytes : List ℕ → List ℕ
@@ -39,6 +40,7 @@ private_source parts coded plain =
     font_reported_at Nowhere (leading_bytes (lines plain)) >>= λ lead.
     with_digits (coded_place parts coded) coded (read_private_text (reading_operator (lines plain)) lead plain) >>= λ private.
     single_sections private.0 >>= λ single.
+    stands (reading_operator (lines plain)) lead plain >>= λ kept.
     Ok (private.0 ++ joined (tail_of (lines (tail_after parts coded (4 + (length plain - length private.1))))))
 
 -- Type 1 Font Format, 7.2 (eexec): the same, of the encrypted part alone

@@ -20,6 +20,7 @@ use Rattle.t1_disassemble.specs.Kinds.{plain_kind, single_sections}
 use Rattle.t1_disassemble.specs.Layouts.{begins_border}
 use Rattle.t1_disassemble.specs.Opening.{first_opening}
 use Rattle.t1_disassemble.specs.Settings.{opens_section, reading_operator, leading_bytes}
+use Rattle.t1_disassemble.specs.Standing.{Standing, fresh, line_judged, entry_judged, all_kept}
 
 -- profile: the bytes of blocks, one after another
 abbrev pub blocks_bytes : List (List ℕ) → List ℕ
@@ -80,6 +81,18 @@ reads_item operator (Section before count after) = reads_line operator (before +
 reads_item operator (Subr number words closing) = nat_lt number (2 ^ 64) && reads_closing operator closing
 reads_item operator (Glyph name words closing) = is_name name && reads_closing operator closing
 
+-- profile, sections: what a reader of the source makes of an item of an assembled font
+abbrev pub item_judged : List ℕ → ℕ → Standing → Item → Standing
+item_judged operator lead s (Plain line) = line_judged operator lead false s line
+item_judged operator lead s (Section before count after) = line_judged operator lead false s (before ++ decimal count ++ after)
+item_judged operator lead s (Subr number words closing) = line_judged operator lead true (entry_judged operator lead false s [] (codes "dup " ++ decimal number)) (closing_text closing)
+item_judged operator lead s (Glyph name words closing) = line_judged operator lead true (entry_judged operator lead false s [] (slash ∷ name)) (closing_text closing)
+
+-- profile, sections: what it makes of items, one after another
+abbrev pub items_judged : List ℕ → ℕ → Standing → List Item → Standing
+items_judged operator lead s [] = s
+items_judged operator lead s (item ∷ items) = items_judged operator lead (item_judged operator lead s item) items
+
 -- profile: the lines of items through the first section line, before which no entry stands
 abbrev pub front_lines : List Item → List (List ℕ)
 front_lines [] = []
@@ -122,4 +135,5 @@ pub record IsReadBack (clear : List (List ℕ)) (operator : List ℕ) (lead : �
   pub each : list_all (reads_item operator) items ≡ true
   pub end : IsLast operator last
   pub kind : plain_kind (joined clear) ≡ Ok (joined clear)
+  pub kept : all_kept (line_judged operator lead false (items_judged operator lead (fresh operator lead) items) last) ≡ Ok tt
   pub single : single_sections (joined (source_lines items last)) ≡ Ok (joined (source_lines items last))

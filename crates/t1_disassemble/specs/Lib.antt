@@ -31,6 +31,8 @@ pub mod SegmentsRead
 pub mod Settings
 pub mod SoundWords
 pub mod SourceOnto
+pub mod Standing
+pub mod Stood
 pub mod Waiting
 pub mod Words
 pub mod WordsOnto

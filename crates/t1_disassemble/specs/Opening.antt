@@ -1,10 +1,10 @@
 -- Where an entry opens on a line of the private text.
-use Rattle.std.specs.Prelude.{ℕ, ◌+◌, ◌&&◌, is_some, if◌then◌else◌, Option, None, Some, List, [], ◌∷◌, ◌++◌, length, codes}
+use Rattle.std.specs.Prelude.{ℕ, ◌+◌, ◌-◌, ◌^◌, min, ◌&&◌, is_some, if◌then◌else◌, Option, None, Some, List, [], ◌∷◌, ◌++◌, length, codes}
 use Rattle.std.specs.Str.{bytes_eq}
 use Rattle.t1_frac.specs.Ascii.{slash}
 use Rattle.t1_frac.specs.Numbers.{decimal_value}
 use Rattle.t1_text.specs.Lines.{begins_with}
-use Rattle.t1_text.specs.Names.{decimal_of, is_count}
+use Rattle.t1_text.specs.Names.{decimal_of}
 
 -- Type 1 Font Format, 2.4 (Subrs and CharStrings): the place of an entry's first token, what the entry is called, how many bytes its charstring has, and the place where the reading operator ends
 pub record Opening : Type 0 where
@@ -13,18 +13,22 @@ pub record Opening : Type 0 where
   pub count : ℕ
   pub end : ℕ
 
+-- profile: the length that digits say; no file has more bytes than 2 ^ 64 - 1
+abbrev pub length_said : List ℕ → ℕ
+length_said digits = min (decimal_value digits) (2 ^ 64 - 1)
+
 -- Type 1 Font Format, 2.4 (CharStrings): the tokens `/NAME`, a count and the reading operator in a row
 abbrev pub glyph_opening : List ℕ → ℕ × List ℕ → ℕ × List ℕ → ℕ × List ℕ → Option Opening
 glyph_opening operator name count reads =
-    if begins_with slash name.1 && is_count count.1 && bytes_eq reads.1 operator
-    then Some (record { at = name.0; name = name.1; count = decimal_value count.1; end = reads.0 + length reads.1 })
+    if begins_with slash name.1 && is_some (decimal_of count.1) && bytes_eq reads.1 operator
+    then Some (record { at = name.0; name = name.1; count = length_said count.1; end = reads.0 + length reads.1 })
     else None
 
 -- Type 1 Font Format, 2.4 (Subrs): the tokens `dup`, a number, a count and the reading operator in a row
 abbrev pub subr_opening : List ℕ → ℕ × List ℕ → ℕ × List ℕ → ℕ × List ℕ → ℕ × List ℕ → Option Opening
 subr_opening operator dup number count reads =
-    if bytes_eq dup.1 (codes "dup") && is_some (decimal_of number.1) && is_count count.1 && bytes_eq reads.1 operator
-    then Some (record { at = dup.0; name = codes "dup " ++ number.1; count = decimal_value count.1; end = reads.0 + length reads.1 })
+    if bytes_eq dup.1 (codes "dup") && is_some (decimal_of number.1) && is_some (decimal_of count.1) && bytes_eq reads.1 operator
+    then Some (record { at = dup.0; name = codes "dup " ++ number.1; count = length_said count.1; end = reads.0 + length reads.1 })
     else None
 
 -- profile: the first of two, where it is something

@@ -13,6 +13,7 @@ use Rattle.t1_disassemble.specs.Outcome.{font_reported_at}
 use Rattle.t1_disassemble.specs.PiecesOnto.{private_onto}
 use Rattle.t1_disassemble.specs.SegmentsRead.{FontParts}
 use Rattle.t1_disassemble.specs.Settings.{reading_operator, leading_bytes}
+use Rattle.t1_disassemble.specs.Standing.{stands}
 
 -- word: the lines of the private text and of the tail, after a text
 abbrev pub plain_onto : List ℕ → FontParts → List ℕ → List ℕ → Result (List ℕ) FontFault
@@ -20,6 +21,7 @@ plain_onto text parts coded plain =
     font_reported_at Nowhere (leading_bytes (lines plain)) >>= λ lead.
     with_digits (coded_place parts coded) coded (private_onto (reading_operator (lines plain)) lead text false plain) >>= λ private.
     single_sections (drop (length text) private.0) >>= λ single.
+    stands (reading_operator (lines plain)) lead plain >>= λ kept.
     Ok (private.0 ++ joined (tail_of (lines (tail_after parts coded (4 + (length plain - length private.1))))))
 
 -- word: the same, of the encrypted part alone
@@ -32,6 +34,7 @@ binary_onto text tail plain =
     font_reported_at Nowhere (leading_bytes (lines plain)) >>= λ lead.
     private_onto (reading_operator (lines plain)) lead text false plain >>= λ private.
     single_sections (drop (length text) private.0) >>= λ single.
+    stands (reading_operator (lines plain)) lead plain >>= λ kept.
     Ok (private.0 ++ joined (tail_of (lines tail)))
 
 -- word: the lines of a private text, after a text, and how many of its bytes hold them
@@ -40,6 +43,7 @@ counted_onto text plain =
     font_reported_at Nowhere (leading_bytes (lines plain)) >>= λ lead.
     private_onto (reading_operator (lines plain)) lead text false plain >>= λ private.
     single_sections (drop (length text) private.0) >>= λ single.
+    stands (reading_operator (lines plain)) lead plain >>= λ kept.
     Ok (private.0, length plain - length private.1)
 
 -- word: these, and the lines of the tail, of an encrypted part in binary whose file has no segments
@@ -52,6 +56,7 @@ counted_private plain =
     font_reported_at Nowhere (leading_bytes (lines plain)) >>= λ lead.
     private_onto (reading_operator (lines plain)) lead [] false plain >>= λ private.
     single_sections private.0 >>= λ single.
+    stands (reading_operator (lines plain)) lead plain >>= λ kept.
     Ok (private.0, length plain - length private.1)
 
 -- word: these, and the lines of the tail

@@ -14,6 +14,8 @@ ghost use Rattle.t1_disassemble.specs.Front.{after_eexec, past_spaces};
 ghost use Rattle.t1_disassemble.specs.Lent.{lent_parts};
 ghost use Rattle.t1_disassemble.specs.Outcome.{GivesFont};
 ghost use Rattle.t1_disassemble.specs.PiecesOnto.{private_onto};
+ghost use Rattle.t1_disassemble.specs.Standing.{judged};
+ghost use Rattle.t1_disassemble.specs.Stood.{standing_of};
 ghost use Rattle.t1_disassemble.specs.SourceOnto.{plain_onto, source_onto, binary_onto};
 ghost use Rattle.t1_disassemble.specs.SourceOnto.{counted_onto, flat_onto};
 
@@ -32,6 +34,7 @@ use crate::segments::{
     text_left,
 };
 use crate::settings::{leading_bytes, reading_operator};
+use crate::standing::Standing;
 use std::alloc::{AllocError, Global};
 use t1_parts::{push_line, tail_of};
 use t1_text::first_line;
@@ -115,6 +118,7 @@ fn is_early(code: FontCode) -> bool
         FontCode::D1 | FontCode::D2 | FontCode::D3 => false,
         FontCode::D6 | FontCode::D7 | FontCode::D8 | FontCode::D9 => false,
         FontCode::D10 | FontCode::D11 | FontCode::D12 | FontCode::D13 => false,
+        FontCode::D14 | FontCode::D15 | FontCode::D16 | FontCode::D17 => false,
     }
 }
 
@@ -150,6 +154,7 @@ fn at_digits(place: usize, coded: &[u8], refusal: FontRefusal) -> FontRefusal
 pub(crate) fn push_checked<'a, T: Lines>(
     alloc: Global,
     text: &mut T,
+    standing: &mut Standing,
     settings: &Settings,
     place: usize,
     coded: &[u8],
@@ -163,8 +168,10 @@ pub(crate) fn push_checked<'a, T: Lines>(
         (private_onto settings.now.operator.now settings.now.lead (T.text text.old) false
         plain.now)) }
     ensures within { IfOk result (λ rest. length rest.now ≤ length plain.now) }
+    ensures standing { OnOk result (standing_of standing.new
+        ≡ judged settings.now.operator.now settings.now.lead plain.now false (standing_of standing.old)) }
 {
-    match push_private(alloc, text, settings, plain) {
+    match push_private(alloc, text, standing, settings, plain) {
         Ok(rest) => Ok(rest),
         Err(refusal) => Err(at_digits(place, coded, refusal)),
     }
@@ -201,8 +208,10 @@ fn push_plain(
     };
     let place = coded_place(parts, coded);
     let front = text.as_bytes().len();
-    let rest = push_checked(alloc, text, &settings, place, coded, plain)?;
+    let mut standing = Standing::new(alloc, &settings);
+    let rest = push_checked(alloc, text, &mut standing, &settings, place, coded, plain)?;
     check_sections(past(text.as_bytes(), front))?;
+    standing.check()?;
     let count = EEXEC_LEAD + (plain.len() - rest.len());
     push_tail(alloc, text, tail_after(parts, coded, count))?;
     Ok(())
@@ -245,8 +254,10 @@ fn push_counted(alloc: Global, text: &mut CodedText, plain: &[u8]) -> Result<usi
         lead,
     };
     let front = text.as_bytes().len();
-    let rest = push_private(alloc, text, &settings, plain)?;
+    let mut standing = Standing::new(alloc, &settings);
+    let rest = push_private(alloc, text, &mut standing, &settings, plain)?;
     check_sections(past(text.as_bytes(), front))?;
+    standing.check()?;
     Ok(plain.len() - rest.len())
 }
 
@@ -268,8 +279,10 @@ fn push_segmented(
         lead,
     };
     let front = text.as_bytes().len();
-    push_private(alloc, text, &settings, plain)?;
+    let mut standing = Standing::new(alloc, &settings);
+    push_private(alloc, text, &mut standing, &settings, plain)?;
     check_sections(past(text.as_bytes(), front))?;
+    standing.check()?;
     push_tail(alloc, text, tail)?;
     Ok(())
 }

@@ -31,6 +31,14 @@ pub enum FontCode {
     D12,
     /// A CID-keyed font.
     D13,
+    /// An entry that the source would lose, or a line that it would have as an entry.
+    D14,
+    /// The Subrs line's count is over 0, and no Subr stands behind it.
+    D15,
+    /// The CharStrings line's count is over 0, and no glyph stands behind it.
+    D16,
+    /// The source would say another reading operator or lenIV than the font was read by.
+    D17,
 }
 
 /// Where a fault of a file stands.

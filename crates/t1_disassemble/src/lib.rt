@@ -29,6 +29,7 @@ mod places;
 mod private;
 mod segments;
 mod settings;
+mod standing;
 mod waiting;
 
 pub use coded_bodies::CodedBodies;

@@ -1,11 +1,15 @@
 //! Where an entry opens on a line of the private text.
 ghost use Rattle.std.specs.Prelude.{◌≡◌, ◌+◌, ◌^◌, ◌<◌, ◌∷◌, ℕ, length, option_map, IfSome};
+ghost use Rattle.std.specs.Prelude.{is_some, true};
+ghost use Rattle.t1_text.specs.Names.{decimal_of};
+ghost use Rattle.t1_disassemble.specs.Opening.{length_said};
 ghost use Rattle.t1_text.specs.Tokens.{places_from};
 ghost use Rattle.t1_disassemble.specs.Opening.{glyph_opening, subr_opening, opening_here};
 ghost use Rattle.t1_disassemble.specs.Opening.{first_opening};
 ghost use Rattle.t1_disassemble.specs.Opened.{opening_of};
 
-use t1_text::{count_of, is_count, is_decimal, next_place, same};
+use t1_frac::leading_number;
+use t1_text::{is_decimal, next_place, same};
 
 /// An entry that opens on a line: where its first token stands, its number or its name with the
 /// slash, how many bytes its charstring has, and where the reading operator ends.
@@ -16,6 +20,14 @@ pub(crate) struct Opening<'a> {
     pub(crate) name: &'a [u8],
     pub(crate) count: usize,
     pub(crate) end: usize,
+}
+
+/// The length that some digits say.
+fn length_said(digits: &[u8]) -> usize
+    requires { is_some (decimal_of digits.now) ≡ true }
+    ensures { result ≡ length_said digits.now }
+{
+    leading_number(digits).0 as usize
 }
 
 /// The glyph that three tokens open.
@@ -32,12 +44,12 @@ fn glyph_opening<'a>(
     ensures within { IfSome result (λ opening. opening.end < 2 ^ 63) }
 {
     if let [b'/', ..] = name.1 {
-        if is_count(count) && same(reads.1, operator) {
+        if is_decimal(count) && same(reads.1, operator) {
             return Some(Opening {
                 at: name.0,
                 is_subr: false,
                 name: name.1,
-                count: count_of(count) as usize,
+                count: length_said(count),
                 end: reads.0 + reads.1.len(),
             });
         }
@@ -59,12 +71,12 @@ fn subr_opening<'a>(
         (other, count.now) (reads.entry.0, reads.entry.1.now) }
     ensures within { IfSome result (λ opening. opening.end < 2 ^ 63) }
 {
-    if same(dup.1, b"dup") && is_decimal(number) && is_count(count) && same(reads.1, operator) {
+    if same(dup.1, b"dup") && is_decimal(number) && is_decimal(count) && same(reads.1, operator) {
         return Some(Opening {
             at: dup.0,
             is_subr: true,
             name: number,
-            count: count_of(count) as usize,
+            count: length_said(count),
             end: reads.0 + reads.1.len(),
         });
     }

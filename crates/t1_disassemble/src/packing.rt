@@ -35,6 +35,7 @@ use crate::segments::{
     text_left,
 };
 use crate::settings::{leading_bytes, reading_operator};
+use crate::standing::Standing;
 use std::alloc::{AllocError, Global};
 use std::io::{self, Write};
 use std::marker::Model;
@@ -104,8 +105,18 @@ fn packed_plain(
     };
     let place = coded_place(parts, coded);
     let mut text = Packed::new(alloc);
-    let rest = push_checked(alloc, &mut text, &settings, place, coded, plain)?;
+    let mut standing = Standing::new(alloc, &settings);
+    let rest = push_checked(
+        alloc,
+        &mut text,
+        &mut standing,
+        &settings,
+        place,
+        coded,
+        plain,
+    )?;
     text.check_sections()?;
+    standing.check()?;
     let count = EEXEC_LEAD + (plain.len() - rest.len());
     add_tail(alloc, &mut text, tail_after(parts, coded, count))?;
     Ok(text)
@@ -136,8 +147,10 @@ fn packed_private(alloc: Global, plain: &[u8]) -> Result<(Packed, usize), FontRe
         lead,
     };
     let mut text = Packed::new(alloc);
-    let rest = push_private(alloc, &mut text, &settings, plain)?;
+    let mut standing = Standing::new(alloc, &settings);
+    let rest = push_private(alloc, &mut text, &mut standing, &settings, plain)?;
     text.check_sections()?;
+    standing.check()?;
     Ok((text, plain.len() - rest.len()))
 }
 

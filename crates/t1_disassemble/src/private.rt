@@ -16,6 +16,9 @@ ghost use Rattle.t1_disassemble.specs.Placed.{IsPlaced};
 ghost use Rattle.t1_disassemble.specs.PiecesOnto.{line_onto, entry_left, entry_onto, read_onto};
 ghost use Rattle.t1_disassemble.specs.PiecesOnto.{private_onto};
 ghost use Rattle.t1_disassemble.specs.PrivateText.{plain_text, front_text, head_line};
+ghost use Rattle.t1_disassemble.specs.PrivateText.{source_line};
+ghost use Rattle.t1_disassemble.specs.Standing.{line_judged, judged};
+ghost use Rattle.t1_disassemble.specs.Stood.{standing_of, judged_after};
 ghost use Rattle.t1_disassemble.specs.Words.{words_of_encrypted};
 ghost use Rattle.t1_disassemble.specs.WordsOnto.{words_onto};
 
@@ -25,6 +28,7 @@ use crate::known::Known;
 use crate::layouts::{are_one, is_closefile};
 use crate::lines::Lines;
 use crate::opening::{Opening, first_opening};
+use crate::standing::Standing;
 use std::alloc::{AllocError, Global};
 use t1_frac::Bytes;
 use t1_text::trimmed;
@@ -215,8 +219,9 @@ fn goes_on(
 #[tactic(auto, using(t1_text::proofs::CutLaws::line_gone, t1_text::proofs::CutLaws::after_within))]
 fn push_whole_line<'a, T: Lines>(
     text: &mut T,
+    standing: &mut Standing,
     buffer: &mut Vec<u8>,
-    operator: &[u8],
+    settings: &Settings,
     waits: bool,
     end: usize,
     bytes: &'a [u8],
@@ -227,16 +232,20 @@ fn push_whole_line<'a, T: Lines>(
     ensures value { IfOk
         result
         (λ piece. piece_of (T.text text.new) piece
-        ≡ line_onto operator.now (T.text text.old) waits bytes.now) }
+        ≡ line_onto settings.now.operator.now (T.text text.old) waits bytes.now) }
     ensures shorter { IfOk result (λ piece. length piece.rest.now < length bytes.now) }
     ensures end { IfOk result (λ piece. piece.end ≡ line_len piece.rest.now) }
+    ensures standing { OnOk result (standing_of standing.new
+        ≡ line_judged settings.now.operator.now settings.now.lead waits (standing_of standing.old)
+        (source_line settings.now.operator.now bytes.now)) }
 {
     let (line, ended) = bytes.split_at(end);
     let rest = after_end(ended);
     let next_end = line_len(rest);
     let (next, next_ended) = rest.split_at(next_end);
-    if goes_on(buffer, operator, line, next)? {
+    if goes_on(buffer, settings.operator, line, next)? {
         push_plain(text, waits, buffer)?;
+        standing.judge_line(settings, waits, buffer)?;
         let after = after_end(next_ended);
         return Ok(EntryRead {
             rest: after,
@@ -246,6 +255,7 @@ fn push_whole_line<'a, T: Lines>(
         });
     }
     push_plain(text, waits, line)?;
+    standing.judge_line(settings, waits, line)?;
     Ok(EntryRead {
         rest,
         end: next_end,
@@ -260,6 +270,7 @@ fn push_piece<'a, T: Lines>(
     alloc: Global,
     known: &Known,
     text: &mut T,
+    standing: &mut Standing,
     buffer: &mut Vec<u8>,
     settings: &Settings,
     waits: bool,
@@ -274,15 +285,20 @@ fn push_piece<'a, T: Lines>(
         bytes.now) }
     ensures end { IfOk result (λ piece. piece.end ≡ line_len piece.rest.now) }
     ensures shorter { IfOk result (λ piece. length piece.rest.now < length bytes.now) }
+    ensures standing { IfOk result
+        (λ piece. judged_after settings.now.operator.now settings.now.lead piece (standing_of standing.new)
+        ≡ judged settings.now.operator.now settings.now.lead bytes.now waits (standing_of standing.old)) }
 {
     if bytes.is_empty() {
         return Err(FontRefusal::from(FontCode::D4));
     }
     let Some(opening) = first_opening(settings.operator, up_to(bytes, end)) else {
-        let piece = push_whole_line(text, buffer, settings.operator, waits, end, bytes)?;
+        let piece = push_whole_line(text, standing, buffer, settings, waits, end, bytes)?;
         return Ok(piece);
     };
-    push_front(text, waits, up_to(bytes, opening.at))?;
+    let front = up_to(bytes, opening.at);
+    push_front(text, waits, front)?;
+    standing.judge_entry(settings, waits, front, &opening)?;
     let data = past(bytes, opening.end + 1);
     let rest = push_entry(alloc, known, text, buffer, settings.lead, &opening, data)?;
     Ok(EntryRead {
@@ -299,6 +315,7 @@ fn push_piece<'a, T: Lines>(
 pub(crate) fn push_private<'a, T: Lines>(
     alloc: Global,
     text: &mut T,
+    standing: &mut Standing,
     settings: &Settings,
     bytes: &'a [u8],
 ) -> Result<&'a [u8], FontRefusal>
@@ -308,6 +325,9 @@ pub(crate) fn push_private<'a, T: Lines>(
         (private_onto settings.now.operator.now settings.now.lead (T.text text.old) false
         bytes.now) }
     ensures within { IfOk result (λ rest. length rest.now ≤ length bytes.now) }
+    ensures standing { OnOk result (standing_of standing.new
+        ≡ judged settings.now.operator.now settings.now.lead bytes.now false
+        (standing_of standing.old)) }
 {
     let known = Known::new(alloc)?;
     text.make_room(bytes.len())?;
@@ -316,7 +336,17 @@ pub(crate) fn push_private<'a, T: Lines>(
     let mut end = line_len(bytes);
     let mut rest = bytes;
     loop {
-        let piece = push_piece(alloc, &known, text, &mut buffer, settings, waits, end, rest)?;
+        let piece = push_piece(
+            alloc,
+            &known,
+            text,
+            standing,
+            &mut buffer,
+            settings,
+            waits,
+            end,
+            rest,
+        )?;
         rest = piece.rest;
         if piece.is_last {
             return Ok(rest);

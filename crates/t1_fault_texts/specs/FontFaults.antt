@@ -1,7 +1,7 @@
 -- How a fault of a font's file is written.
 use Rattle.std.specs.Prelude.{ℕ, Bool, false, ◌==◌, ◌++◌, List, [], ◌∷◌, drop, codes, decimal, if◌then◌else◌}
 use Rattle.t1_disassemble.specs.declared.fault.FontCode.{FontCode}
-use Rattle.t1_disassemble.specs.declared.fault.FontCode.TheVariants.{D1, D2, D3, D4, D5, D6, D7, D8, D9, D10, D11, D12, D13}
+use Rattle.t1_disassemble.specs.declared.fault.FontCode.TheVariants.{D1, D2, D3, D4, D5, D6, D7, D8, D9, D10, D11, D12, D13, D14, D15, D16, D17}
 use Rattle.t1_disassemble.specs.declared.fault.FontFault.{FontFault}
 use Rattle.t1_disassemble.specs.declared.fault.FontPlace.{FontPlace}
 use Rattle.t1_disassemble.specs.declared.fault.FontPlace.TheVariants.{Nowhere, Byte, Entry}
@@ -21,6 +21,10 @@ font_code_name D10 = codes "D10"
 font_code_name D11 = codes "D11"
 font_code_name D12 = codes "D12"
 font_code_name D13 = codes "D13"
+font_code_name D14 = codes "D14"
+font_code_name D15 = codes "D15"
+font_code_name D16 = codes "D16"
+font_code_name D17 = codes "D17"
 
 -- profile: whether an entry is that of a glyph, whose name stands after a slash
 abbrev pub begins_with_slash : List ℕ → Bool

@@ -34,6 +34,10 @@ fn code_name(code: FontCode) -> &'static [u8]
         FontCode::D11 => b"D11",
         FontCode::D12 => b"D12",
         FontCode::D13 => b"D13",
+        FontCode::D14 => b"D14",
+        FontCode::D15 => b"D15",
+        FontCode::D16 => b"D16",
+        FontCode::D17 => b"D17",
     }
 }
 

@@ -197,6 +197,64 @@ const SECTION: TopicGroup = TopicGroup {
                 What to do: make a font with named glyphs of it, as 'tx -t1 -decid' does.\n",
             note: "",
         },
+        Topic {
+            code: "D14",
+            meaning: "an entry that the source would lose, or read where the font has none",
+            lead: PRIVATE_EXAMPLE,
+            text: "\t/A 8#11 RD\n\
+                \n\
+                An entry stands outside its section: a Subr before the Subrs line or among the\n\
+                glyphs, a glyph before the CharStrings line. Or a line would be an entry in the\n\
+                source and is none in the font, as /B {def} def behind the glyphs. Or the\n\
+                operator that reads charstrings, mostly RD, stands outside an entry's head, which\n\
+                is '/NAME LENGTH RD' or 'dup NUMBER LENGTH RD' on one line, with a length in\n\
+                decimal digits. Or such a head has another word than this operator. Or the\n\
+                encrypted part is closed before an entry on its line. Without a place the line\n\
+                with the operator has no name on it.\n\
+                \n\
+                What to do: write the font anew in the common layout, as 'tx -t1' does.\n",
+            note: "",
+        },
+        Topic {
+            code: "D15",
+            meaning: "a Subrs line whose count is over 0, and no Subr behind it",
+            lead: PRIVATE_EXAMPLE,
+            text: "\t/Subrs 5 array\n\
+                \n\
+                A Subr is 'dup NUMBER LENGTH RD' and its bytes. RD is the operator that the first\n\
+                line with 'string currentfile' defines, before the first section, or RD where no\n\
+                line does. Entries by another operator aren't found.\n\
+                \n\
+                What to do: write the font anew in the common layout, as 'tx -t1' does.\n",
+            note: "",
+        },
+        Topic {
+            code: "D16",
+            meaning: "a CharStrings line whose count is over 0, and no glyph behind it",
+            lead: PRIVATE_EXAMPLE,
+            text: "\t/CharStrings 5 dict dup begin\n\
+                \n\
+                A glyph is '/NAME LENGTH RD' and its bytes. RD is the operator that the first\n\
+                line with 'string currentfile' defines, before the first section, or RD where no\n\
+                line does. Entries by another operator aren't found.\n\
+                \n\
+                What to do: write the font anew in the common layout, as 'tx -t1' does.\n",
+            note: "",
+        },
+        Topic {
+            code: "D17",
+            meaning: "the source would say another RD or lenIV than the font is read by",
+            lead: PRIVATE_EXAMPLE,
+            text: "\t/lenIV 0 def\n\
+                \n\
+                It stands behind the first section line, where a reader of the font has read\n\
+                Subrs or glyphs already; a source says lenIV, and the operator that reads\n\
+                charstrings, for all of them, by its first line that does. So they have to be\n\
+                said before the first section, each on a line of its own.\n\
+                \n\
+                What to do: write the font anew in the common layout, as 'tx -t1' does.\n",
+            note: "",
+        },
     ],
 };
 

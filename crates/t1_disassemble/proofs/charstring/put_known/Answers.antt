@@ -1,4 +1,4 @@
-use Rattle.std.proofs.Common.{◌≡◌, ◌∷◌, true, take, ◌∙◌, rules}
+use Rattle.std.proofs.Common.{◌≡◌, ◌∷◌, take, ◌∙◌, rules}
 use Rattle.t1_disassemble.proofs.Reading.{known_more, number_more}
 use Rattle.t1_disassemble.proofs.charstring.put_known.Goals as goal
 

@@ -1,4 +1,4 @@
-use Rattle.std.proofs.Common.{◌≡◌, false, ◌+◌, List, ℕ, [], ◌++◌, Result, drop, sym, ap, ◌∙◌, subst, append-nil, rules}
+use Rattle.std.proofs.Common.{◌≡◌, false, ◌+◌, List, ℕ, [], Result, drop, sym, ap, ◌∙◌, subst, append-nil, rules}
 use Rattle.std.specs.List.{prefix_len}
 use Rattle.t1_disassemble.specs.declared.fault.FontFault.{FontFault}
 use Rattle.t1_disassemble.specs.Digits.{is_hexadecimal}

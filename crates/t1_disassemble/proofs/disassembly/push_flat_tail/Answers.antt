@@ -1,4 +1,4 @@
-use Rattle.std.proofs.Common.{◌≡◌, ◌++◌, ◌-◌, ◌≤◌, List, ℕ, OnOk, length, drop, ap, sym, subst, ◌∙◌, arith}
+use Rattle.std.proofs.Common.{◌≡◌, ◌++◌, ◌-◌, ◌≤◌, List, ℕ, OnOk, length, drop, ap, subst, ◌∙◌, arith}
 use Rattle.t1_text.specs.Lines.{lines, joined}
 use Rattle.t1_parts.specs.Parts.{tail_of}
 use Rattle.t1_disassemble.proofs.Deciphering.{length_deciphered}

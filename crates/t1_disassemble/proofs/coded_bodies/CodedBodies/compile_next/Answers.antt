@@ -1,4 +1,4 @@
-use Rattle.std.proofs.Common.{◌≡◌, List, ℕ, false, map, drop, length, Ok, ◌∙◌}
+use Rattle.std.proofs.Common.{◌≡◌, false, map, drop, length, Ok, ◌∙◌}
 use Rattle.t1_disassemble.specs.CommandWords.{command_word}
 use Rattle.t1_disassemble.specs.Words.{words_of}
 use Rattle.t1_disassemble.proofs.CommandLaws.{printed_again, compiled}

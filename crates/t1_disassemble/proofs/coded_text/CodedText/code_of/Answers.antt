@@ -1,4 +1,4 @@
-use Rattle.std.proofs.Common.{◌≡◌, ◌≤◌, length, subst, rules, arith}
+use Rattle.std.proofs.Common.{◌≤◌, length, subst, arith}
 use Rattle.t1_frac.specs.Words.{words}
 use Rattle.t1_code.proofs.Counting.{words_within}
 use Rattle.t1_disassemble.proofs.coded_text.CodedText.code_of.Goals as goal

@@ -1,5 +1,4 @@
-use Rattle.std.proofs.Common.{◌≡◌, List, ℕ, [], ◌∷◌, ◌++◌, false, Ok, length, rules}
-use Rattle.t1_disassemble.specs.declared.coded_text.CodedBody.{CodedBody}
+use Rattle.std.proofs.Common.{◌≡◌, [], ◌∷◌, ◌++◌, false, Ok, rules}
 use Rattle.t1_disassemble.specs.declared.fault.FontPlace.TheVariants.{Nowhere}
 use Rattle.t1_disassemble.specs.Outcome.{font_reported_at}
 use Rattle.t1_disassemble.specs.Words.{words_of}

@@ -1,4 +1,4 @@
-use Rattle.std.proofs.Common.{◌≡◌, ◌≤◌, ◌∷◌, [], ◌++◌, ◌+◌, List, ℕ, true, if◌then◌else◌, length, take, sym, ap, subst, ◌∙◌, arith}
+use Rattle.std.proofs.Common.{◌≡◌, ◌≤◌, ◌∷◌, [], ◌++◌, ◌+◌, List, ℕ, if◌then◌else◌, length, take, sym, ap, subst, ◌∙◌, arith}
 use Rattle.std.specs.Fmt.{decimal}
 use Rattle.t1_disassemble.specs.KnownNumbers.{signed_digits}
 use Rattle.t1_disassemble.proofs.NumberWords.{before_byte, signed_on}
