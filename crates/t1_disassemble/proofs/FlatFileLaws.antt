@@ -74,8 +74,8 @@ flat_again clear operator lead items last bytes trailer coded more is made no_ma
     ∙ ap (source_onto (joined clear) parts) here
     ∙ ap (plain_onto (joined clear) parts coded) plain
     ∙ plain_again (joined clear) parts coded (private ++ more) operator all more lead (ap (λ l. leading_bytes (lines l)) grouped ∙ says.1 ∙ is.said.leads) (ap (λ l. reading_operator (lines l)) grouped ∙ says.0 ∙ is.said.reads)
-    (ap (private_onto operator lead (joined clear) false) ended ∙ private_again operator lead items bytes (joined clear) last more is.said.name is.said.small is.each made is.end.line is.end.none is.end.closes) (single_after (joined clear) (joined (source_lines items last)) is.single)
-    (ap (stands operator lead) ended ∙ stands_again operator lead items bytes last more is.said.name is.said.small is.each made is.end.line is.end.none is.end.closes is.kept)
+    (ap (private_onto operator lead (joined clear) false) ended ∙ private_again operator lead items bytes (joined clear) last more is.said.name is.said.small is.each made is.end.line is.end.none is.end.closes is.end.fit is.end.uncut) (single_after (joined clear) (joined (source_lines items last)) is.single)
+    (ap (stands operator lead) ended ∙ stands_again operator lead items bytes last more is.said.name is.said.small is.each made is.end.line is.end.none is.end.closes is.end.fit is.end.uncut is.kept)
     ∙ ap (λ t. Ok (all ++ joined (tail_of (lines t)))) tail)
 
 -- ---- the encrypted part in binary

@@ -21,11 +21,11 @@ use Rattle.t1_parts.specs.Parts.{is_closefile}
 use Rattle.t1_parts.specs.Printing.{item_lines, entry_lines, last_line}
 use Rattle.t1_parts.proofs.EntryLaws.{digits_regular, name_regular}
 use Rattle.t1_disassemble.specs.declared.fault.FontFault.{FontFault}
-use Rattle.t1_disassemble.specs.Laws.{plain_word, plain_item, item_text, items_text, reads_line, reads_closing, reads_item}
-use Rattle.t1_disassemble.specs.Layouts.{begins_border}
+use Rattle.t1_disassemble.specs.Laws.{fits, plain_word, plain_item, item_text, items_text, reads_line, reads_closing, reads_item}
+use Rattle.t1_disassemble.specs.Layouts.{begins_closefile}
 use Rattle.t1_disassemble.specs.Opening.{Opening, length_said, first_opening}
 use Rattle.t1_disassemble.specs.PiecesOnto.{private_onto}
-use Rattle.t1_disassemble.specs.PrivateText.{head_line}
+use Rattle.t1_disassemble.specs.PrivateText.{cut_len, head_line}
 use Rattle.t1_disassemble.specs.Words.{words_of_encrypted, printed_words}
 use Rattle.t1_disassemble.proofs.FrontLaws.{IsToken, regular_token}
 use Rattle.t1_disassemble.proofs.PieceLaws.{Opens, three, three_more, glyph_opens, subr_opens, plain_again, last_again, entry_more}
@@ -41,15 +41,23 @@ pub record Reads (operator line : List ℕ) : Type 0 where
   pub whole : is_line line ≡ true
   pub none : first_opening operator (places_from 0 line) ≡ None
   pub stays : is_closefile line ≡ false
-  pub alone : begins_border line ≡ false
+  pub alone : begins_closefile line ≡ false
+  pub fit : fits line ≡ true
+  pub uncut : cut_len false line ≡ None
+
+pub uncut_of : (n : Option ℕ) → is_none n ≡ true → n ≡ None
+uncut_of None h = refl
+uncut_of (Some n) h = absurd (cc)
 
 pub reads : (operator line : List ℕ) → reads_line operator line ≡ true → Reads operator line
 reads operator line h =
     let found = first_opening operator (places_from 0 line) in
-    let all = and_parts (is_line line && is_none found && not (is_closefile line)) (not (begins_border line)) h in
-    let outer = and_parts (is_line line && is_none found) (not (is_closefile line)) all.0 in
-    let inner = and_parts (is_line line) (is_none found) outer.0 in
-    record { whole = inner.0; none = none_of found inner.1; stays = not-true (is_closefile line) outer.1; alone = not-true (begins_border line) all.1 }
+    let a = and_parts (is_line line && is_none found && not (is_closefile line) && not (begins_closefile line) && fits line) (is_none (cut_len false line)) h in
+    let b = and_parts (is_line line && is_none found && not (is_closefile line) && not (begins_closefile line)) (fits line) a.0 in
+    let c = and_parts (is_line line && is_none found && not (is_closefile line)) (not (begins_closefile line)) b.0 in
+    let d = and_parts (is_line line && is_none found) (not (is_closefile line)) c.0 in
+    let e = and_parts (is_line line) (is_none found) d.0 in
+    record { whole = e.0; none = none_of found e.1; stays = not-true (is_closefile line) d.1; alone = not-true (begins_closefile line) c.1; fit = b.1; uncut = uncut_of (cut_len false line) a.1 }
 
 -- what is read of bytes, whatever comes after them: these lines
 abbrev pub Gives : List ℕ → ℕ → List ℕ → List (List ℕ) → Type 0
@@ -59,7 +67,7 @@ line_gives : (operator : List ℕ) (lead : ℕ) (line : List ℕ) → reads_line
 line_gives operator lead line h text rest =
     let r = reads operator line h in
     ap (private_onto operator lead text false) (append_assoc line (10 ∷ []) rest)
-    ∙ plain_again operator lead text false line rest r.whole r.none r.stays r.alone
+    ∙ plain_again operator lead text false line rest r.whole r.none r.stays r.alone r.fit r.uncut
     ∙ ap (λ t. private_onto operator lead (text ++ t) false rest) (sym (append-nil (line ++ 10 ∷ [])))
 
 -- ---- a closing text
@@ -74,10 +82,11 @@ trimmed_closing (c ∷ cs) h = ap (λ l. reverse (trimmed_front (reverse l))) (f
 closing_gives : (operator : List ℕ) (lead : ℕ) (text closing rest : List ℕ) → reads_closing operator closing ≡ true
     → private_onto operator lead text true (closing_text closing ++ 10 ∷ rest) ≡ private_onto operator lead (text ++ (last_line closing ++ 10 ∷ [])) false rest
 closing_gives operator lead text closing rest h =
-    let parts = and_parts (bytes_eq (trimmed closing) closing) (reads_line operator (closing_text closing)) h in
+    let all = and_parts (bytes_eq (trimmed closing) closing && reads_line operator (closing_text closing)) (is_none (cut_len true (closing_text closing))) h in
+    let parts = and_parts (bytes_eq (trimmed closing) closing) (reads_line operator (closing_text closing)) all.0 in
     let r = reads operator (closing_text closing) parts.1 in
     let bare = trimmed_closing closing ((bytes_eq-Decides (trimmed closing) closing).0 parts.0) in
-    plain_again operator lead text true (closing_text closing) rest r.whole r.none r.stays r.alone
+    plain_again operator lead text true (closing_text closing) rest r.whole r.none r.stays r.alone r.fit (uncut_of (cut_len true (closing_text closing)) all.1)
     ∙ ap (λ l. private_onto operator lead (text ++ (last_line l ++ 10 ∷ [])) false rest) bare
 
 -- ---- an entry
@@ -202,13 +211,13 @@ items_give operator lead (item ∷ items) bytes op small h e =
 
 -- a whole private text: items, and the line that closes the encrypted part
 pub private_again : (operator : List ℕ) (lead : ℕ) (items : List Item) (bytes text last rest : List ℕ) → is_name operator ≡ true → lead ≤ 64 → list_all (reads_item operator) items ≡ true
-    → items_text lead operator items ≡ Ok bytes → is_line last ≡ true → is_none (first_opening operator (places_from 0 last)) ≡ true → is_closefile last ≡ true
+    → items_text lead operator items ≡ Ok bytes → is_line last ≡ true → is_none (first_opening operator (places_from 0 last)) ≡ true → is_closefile last ≡ true → fits last ≡ true → is_none (cut_len false last) ≡ true
     → private_onto operator lead text false (bytes ++ (last ++ 10 ∷ rest)) ≡ Ok (text ++ joined (flat_map item_lines (map plain_item items) ++ last ∷ []), rest)
-private_again operator lead items bytes text last rest op small h e whole none closes =
+private_again operator lead items bytes text last rest op small h e whole none closes fit uncut =
     let lines = flat_map item_lines (map plain_item items) in
     let end : joined (lines ++ last ∷ []) ≡ joined lines ++ (last ++ 10 ∷ []) = joined-append lines (last ∷ []) ∙ ap (λ l. joined lines ++ l) (append-nil (last ++ 10 ∷ [])) in
     items_give operator lead items bytes op small h e text (last ++ 10 ∷ rest)
-    ∙ last_again operator lead (text ++ joined lines) last rest whole (none_of (first_opening operator (places_from 0 last)) none) closes
+    ∙ last_again operator lead (text ++ joined lines) last rest whole (none_of (first_opening operator (places_from 0 last)) none) closes fit (uncut_of (cut_len false last) uncut)
     ∙ ap (λ (t : List ℕ). finished t) (append_assoc text (joined lines) (last ++ 10 ∷ []) ∙ ap (λ l. text ++ l) (sym end))
   where
     finished : List ℕ → Result (List ℕ × List ℕ) FontFault

@@ -1,5 +1,5 @@
 -- What is made of the items of an assembled private text, one after another.
-use Rattle.std.proofs.Common.{◌≡◌, ℕ, Bool, true, false, if◌then◌else◌, ◌+◌, ◌^◌, ◌≤◌, ◌<◌, List, [], ◌∷◌, ◌++◌, length, drop, codes, None, Some, Result, Ok, Err, refl, sym, ap, subst, ◌∙◌, append_assoc, length-append, inl, arith}
+use Rattle.std.proofs.Common.{◌≡◌, ℕ, Bool, true, false, if◌then◌else◌, ◌&&◌, ◌+◌, ◌^◌, ◌≤◌, ◌<◌, List, [], ◌∷◌, ◌++◌, length, drop, codes, None, Some, Result, Ok, Err, refl, sym, ap, subst, ◌∙◌, append_assoc, length-append, inl, arith}
 use Rattle.std.proofs.lemmas.Bool.{and_parts, ltb-true}
 use Rattle.std.proofs.lemmas.List.{drop_at}
 use Rattle.std.specs.Fmt.{decimal}
@@ -19,12 +19,12 @@ use Rattle.t1_parts.specs.declared.item.Item.TheVariants.{Plain, Section, Subr, 
 use Rattle.t1_parts.specs.Parts.{is_closefile}
 use Rattle.t1_parts.proofs.EntryLaws.{digits_regular}
 use Rattle.t1_disassemble.specs.Front.{front_line}
-use Rattle.t1_disassemble.specs.Laws.{item_text, items_text, reads_line, reads_closing, reads_item, item_judged, items_judged}
+use Rattle.t1_disassemble.specs.Laws.{fits, item_text, items_text, reads_line, reads_closing, reads_item, item_judged, items_judged}
 use Rattle.t1_disassemble.specs.Opening.{Opening, first_opening}
-use Rattle.t1_disassemble.specs.PrivateText.{past_source_line}
-use Rattle.t1_disassemble.specs.Standing.{Standing, fresh, line_judged, entry_judged, judged, all_kept}
+use Rattle.t1_disassemble.specs.PrivateText.{cut_len, past_source_line}
+use Rattle.t1_disassemble.specs.Standing.{Standing, fresh, line_judged, cut_judged, text_judged, entry_judged, judged, all_kept}
 use Rattle.t1_disassemble.proofs.FrontLaws.{front_append, line_front, regular_token}
-use Rattle.t1_disassemble.proofs.ItemLaws.{reads, none_of, entry_regrouped, decimal_counts, name_token, slashed_token, code_short, counted_as}
+use Rattle.t1_disassemble.proofs.ItemLaws.{reads, none_of, uncut_of, entry_regrouped, decimal_counts, name_token, slashed_token, code_short, counted_as}
 use Rattle.t1_disassemble.proofs.PieceLaws.{Alone, source_again, past_again, closes_alone, Opens, three, glyph_opens, subr_opens}
 use Rattle.t1_disassemble.proofs.PlainWords.{compiled}
 use Rattle.t1_disassemble.proofs.StandingLaws.{line_more, entry_more}
@@ -36,23 +36,24 @@ Judges operator lead bytes step = (s : Standing) (rest : List ℕ) → judged op
 -- ---- a line
 
 -- a line on which nothing opens, which closes the encrypted part or doesn't
-line_read : (lead : ℕ) (operator line rest : List ℕ) (waits : Bool) (s : Standing) → is_line line ≡ true → first_opening operator (places_from 0 line) ≡ None → Alone line
+line_read : (lead : ℕ) (operator line rest : List ℕ) (waits : Bool) (s : Standing) → is_line line ≡ true → first_opening operator (places_from 0 line) ≡ None → Alone line → fits line ≡ true → cut_len waits line ≡ None
     → judged operator lead (line ++ 10 ∷ rest) waits s ≡ (if is_closefile line then line_judged operator lead waits s line else judged operator lead rest false (line_judged operator lead waits s line))
-line_read lead operator line rest waits s whole none alone =
+line_read lead operator line rest waits s whole none alone fit uncut =
     let bytes = line ++ 10 ∷ rest in
     let nothing : first_opening operator (places_from 0 (front_line bytes)) ≡ None = ap (λ (l : List ℕ). first_opening operator (places_from 0 l)) (line_front line rest whole) ∙ none in
     line_more operator lead bytes waits s (omega (arith, length-append line (10 ∷ rest))) nothing
-    ∙ ap (λ (l : List ℕ). if is_closefile l then line_judged operator lead waits s l else judged operator lead (past_source_line operator bytes) false (line_judged operator lead waits s l)) (source_again operator line rest whole alone)
-    ∙ ap (λ (l : List ℕ). if is_closefile line then line_judged operator lead waits s line else judged operator lead l false (line_judged operator lead waits s line)) (past_again operator line rest whole alone)
+    ∙ ap (λ (l : List ℕ). if is_closefile l then text_judged operator lead waits s l else judged operator lead (past_source_line operator bytes) false (text_judged operator lead waits s l)) (source_again operator line rest whole alone fit)
+    ∙ ap (λ (l : List ℕ). if is_closefile line then text_judged operator lead waits s line else judged operator lead l false (text_judged operator lead waits s line)) (past_again operator line rest whole alone fit)
+    ∙ ap (λ (t : Standing). if is_closefile line then t else judged operator lead rest false t) (ap (cut_judged operator lead waits s line) uncut)
 
-line_after : (lead : ℕ) (operator line rest : List ℕ) (waits : Bool) (s : Standing) → reads_line operator line ≡ true → judged operator lead (line ++ 10 ∷ rest) waits s ≡ judged operator lead rest false (line_judged operator lead waits s line)
-line_after lead operator line rest waits s h =
+line_after : (lead : ℕ) (operator line rest : List ℕ) (waits : Bool) (s : Standing) → reads_line operator line ≡ true → cut_len waits line ≡ None → judged operator lead (line ++ 10 ∷ rest) waits s ≡ judged operator lead rest false (line_judged operator lead waits s line)
+line_after lead operator line rest waits s h uncut =
     let r = reads operator line h in
-    line_read lead operator line rest waits s r.whole r.none (inl r.alone)
+    line_read lead operator line rest waits s r.whole r.none (inl r.alone) r.fit uncut
     ∙ ap (λ (b : Bool). if b then line_judged operator lead waits s line else judged operator lead rest false (line_judged operator lead waits s line)) r.stays
 
 line_judges : (lead : ℕ) (operator line : List ℕ) → reads_line operator line ≡ true → Judges operator lead (line ++ 10 ∷ []) (λ s. line_judged operator lead false s line)
-line_judges lead operator line h s rest = ap (λ (l : List ℕ). judged operator lead l false s) (append_assoc line (10 ∷ []) rest) ∙ line_after lead operator line rest false s h
+line_judges lead operator line h s rest = ap (λ (l : List ℕ). judged operator lead l false s) (append_assoc line (10 ∷ []) rest) ∙ line_after lead operator line rest false s h (reads operator line h).uncut
 
 -- ---- an entry
 
@@ -75,10 +76,11 @@ step operator lead name closing s = line_judged operator lead true (entry_judged
 entry_judges : (lead : ℕ) (operator name code closing : List ℕ) (end : ℕ) → Opens operator (three name (decimal (length code)) operator) name (length code) end → reads_closing operator closing ≡ true
     → Judges operator lead (entry_text name operator code closing) (step operator lead name closing)
 entry_judges lead operator name code closing end is closes s rest =
-    let parts = and_parts (bytes_eq (trimmed closing) closing) (reads_line operator (closing_text closing)) closes in
+    let all = and_parts (bytes_eq (trimmed closing) closing && reads_line operator (closing_text closing)) (is_none (cut_len true (closing_text closing))) closes in
+    let parts = and_parts (bytes_eq (trimmed closing) closing) (reads_line operator (closing_text closing)) all.0 in
     ap (λ (l : List ℕ). judged operator lead l false s) (entry_regrouped name operator code closing rest)
     ∙ entry_after lead operator (three name (decimal (length code)) operator) name code (closing_text closing ++ 10 ∷ rest) end s is
-    ∙ line_after lead operator (closing_text closing) rest true (entry_judged operator lead false s [] name) parts.1
+    ∙ line_after lead operator (closing_text closing) rest true (entry_judged operator lead false s [] name) parts.1 (uncut_of (cut_len true (closing_text closing)) all.1)
 
 glyph_judges : (operator : List ℕ) (lead : ℕ) (name : List ℕ) (words : List (List ℕ)) (closing code : List ℕ) → is_name operator ≡ true → lead ≤ 64 → is_name name ≡ true → reads_closing operator closing ≡ true
     → encrypted_words lead words ≡ Ok code → Judges operator lead (entry_text (47 ∷ name) operator code closing) (step operator lead (47 ∷ name) closing)
@@ -144,11 +146,11 @@ items_judge operator lead (item ∷ items) bytes op small h e =
 
 -- a whole private text: items, and the line that closes the encrypted part
 pub stands_again : (operator : List ℕ) (lead : ℕ) (items : List Item) (bytes last rest : List ℕ) → is_name operator ≡ true → lead ≤ 64 → list_all (reads_item operator) items ≡ true → items_text lead operator items ≡ Ok bytes
-    → is_line last ≡ true → is_none (first_opening operator (places_from 0 last)) ≡ true → is_closefile last ≡ true → all_kept (line_judged operator lead false (items_judged operator lead (fresh operator lead) items) last) ≡ Ok tt
+    → is_line last ≡ true → is_none (first_opening operator (places_from 0 last)) ≡ true → is_closefile last ≡ true → fits last ≡ true → is_none (cut_len false last) ≡ true → all_kept (line_judged operator lead false (items_judged operator lead (fresh operator lead) items) last) ≡ Ok tt
     → all_kept (judged operator lead (bytes ++ (last ++ 10 ∷ rest)) false (fresh operator lead)) ≡ Ok tt
-stands_again operator lead items bytes last rest op small h e whole none closes kept =
+stands_again operator lead items bytes last rest op small h e whole none closes fit uncut kept =
     let s = items_judged operator lead (fresh operator lead) items in
     ap all_kept (items_judge operator lead items bytes op small h e (fresh operator lead) (last ++ 10 ∷ rest)
-    ∙ line_read lead operator last rest false s whole (none_of (first_opening operator (places_from 0 last)) none) (closes_alone last closes)
+    ∙ line_read lead operator last rest false s whole (none_of (first_opening operator (places_from 0 last)) none) (closes_alone last closes) fit (uncut_of (cut_len false last) uncut)
     ∙ ap (λ (b : Bool). if b then line_judged operator lead false s last else judged operator lead rest false (line_judged operator lead false s last)) closes)
     ∙ kept

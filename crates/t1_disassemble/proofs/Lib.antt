@@ -14,6 +14,7 @@ pub mod FilePlaceLaws
 pub mod FlatFileLaws
 pub mod FrontLaws
 pub mod Fronts
+pub mod HeadLaws
 pub mod InPlaceLaws
 pub mod InPlaceSources
 pub mod ItemLaws

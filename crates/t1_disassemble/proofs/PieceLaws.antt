@@ -12,13 +12,15 @@ use Rattle.t1_text.specs.Tokens.{places_from}
 use Rattle.t1_parts.specs.Parts.{is_closefile}
 use Rattle.t1_disassemble.specs.declared.fault.FontFault.{FontFault}
 use Rattle.t1_disassemble.specs.Front.{front_line, past_line}
-use Rattle.t1_disassemble.specs.Layouts.{is_border, begins_border, one_line, are_one}
+use Rattle.t1_disassemble.specs.Laws.{fits}
+use Rattle.t1_disassemble.specs.Layouts.{is_border, begins_closefile, one_line, are_one}
 use Rattle.t1_disassemble.specs.Opening.{Opening, length_said, glyph_opening, subr_opening, subr_here, opening_here, or_other, first_opening}
 use Rattle.t1_disassemble.specs.PiecesOnto.{entry_left, entry_onto, piece_onto, read_onto, private_onto}
-use Rattle.t1_disassemble.specs.PrivateText.{PieceRead, plain_text, head_line, goes_on, source_line, past_source_line}
+use Rattle.t1_disassemble.specs.PrivateText.{PieceRead, plain_text, line_text, cut_len, head_line, goes_on, headed_line, past_headed, source_line, past_source_line}
 use Rattle.t1_disassemble.specs.Settings.{heads_section}
 use Rattle.t1_disassemble.specs.Words.{words_of_encrypted, printed_words}
 use Rattle.t1_disassemble.proofs.FrontLaws.{front_append, line_front, line_past, lines_parts, IsToken, token_place, token_line}
+use Rattle.t1_disassemble.proofs.HeadLaws.{headless}
 use Rattle.t1_disassemble.proofs.Openings.{here_glyph, here_other}
 use Rattle.t1_disassemble.proofs.Pieces.{go_on, private_more}
 
@@ -33,11 +35,11 @@ never_border a b c d h = rw h refl
 
 -- it may not go on, or is a border by itself
 abbrev pub Alone : List ℕ → Type 0
-Alone line = (begins_border line ≡ false) ⊎ (is_border line ≡ true)
+Alone line = (begins_closefile line ≡ false) ⊎ (is_border line ≡ true)
 
 not_one : (l m : List ℕ) → Alone l → are_one l m ≡ false
-not_one l m (inl h) = never_first (is_border l) (begins_border l) (not (is_border m)) (is_border (one_line l m)) h
-not_one l m (inr h) = never_border (is_border l) (begins_border l) (not (is_border m)) (is_border (one_line l m)) h
+not_one l m (inl h) = never_first (is_border l) (begins_closefile l) (not (is_border m)) (is_closefile (one_line l m)) h
+not_one l m (inr h) = never_border (is_border l) (begins_closefile l) (not (is_border m)) (is_closefile (one_line l m)) h
 
 stays_one : (operator line rest : List ℕ) → is_line line ≡ true → Alone line → goes_on operator (line ++ 10 ∷ rest) ≡ false
 stays_one operator line rest whole alone =
@@ -46,11 +48,13 @@ stays_one operator line rest whole alone =
     ap (λ (l : List ℕ). are_one l next && is_none (first_opening operator (places_from 0 next))) (line_front line rest whole)
     ∙ ap (λ (one : Bool). one && is_none (first_opening operator (places_from 0 next))) (not_one line next alone)
 
-pub source_again : (operator line rest : List ℕ) → is_line line ≡ true → Alone line → source_line operator (line ++ 10 ∷ rest) ≡ line
-source_again operator line rest whole alone = rw (stays_one operator line rest whole alone) (line_front line rest whole)
+pub source_again : (operator line rest : List ℕ) → is_line line ≡ true → Alone line → fits line ≡ true → source_line operator (line ++ 10 ∷ rest) ≡ line
+source_again operator line rest whole alone fit =
+    rw (stays_one operator line rest whole alone) (ap (headed_line operator (line ++ 10 ∷ rest)) (headless line rest whole fit) ∙ line_front line rest whole)
 
-pub past_again : (operator line rest : List ℕ) → is_line line ≡ true → Alone line → past_source_line operator (line ++ 10 ∷ rest) ≡ rest
-past_again operator line rest whole alone = rw (stays_one operator line rest whole alone) (line_past line rest whole)
+pub past_again : (operator line rest : List ℕ) → is_line line ≡ true → Alone line → fits line ≡ true → past_source_line operator (line ++ 10 ∷ rest) ≡ rest
+past_again operator line rest whole alone fit =
+    rw (stays_one operator line rest whole alone) (ap (past_headed operator (line ++ 10 ∷ rest)) (headless line rest whole fit) ∙ line_past line rest whole)
 
 pub closes_alone : (line : List ℕ) → is_closefile line ≡ true → Alone line
 closes_alone line h = inr (elim (cases_Bool (heads_section line)) [
@@ -59,34 +63,34 @@ closes_alone line h = inr (elim (cases_Bool (heads_section line)) [
 ])
 
 made : List ℕ → Bool → List ℕ → List ℕ → PieceRead
-made text waits line rest = record { text = text ++ plain_text waits line; waits = false; rest = rest; is_last = is_closefile line }
+made text waits line rest = record { text = text ++ line_text waits line; waits = false; rest = rest; is_last = is_closefile line }
 
-plain_read : (operator : List ℕ) (lead : ℕ) (text : List ℕ) (waits : Bool) (line rest : List ℕ) → is_line line ≡ true → first_opening operator (places_from 0 line) ≡ None → Alone line
+plain_read : (operator : List ℕ) (lead : ℕ) (text : List ℕ) (waits : Bool) (line rest : List ℕ) → is_line line ≡ true → first_opening operator (places_from 0 line) ≡ None → Alone line → fits line ≡ true
     → read_onto operator lead text waits (line ++ 10 ∷ rest) ≡ Ok (made text waits line rest)
 unfolding read_onto made
-plain_read operator lead text waits line rest whole none alone =
+plain_read operator lead text waits line rest whole none alone fit =
     let bytes = line ++ 10 ∷ rest in
     let front = line_front line rest whole in
     rw (ne_eqb (length bytes) 0 (omega (arith, length-append line (10 ∷ rest))))
     (ap (λ (o : Option Opening). piece_onto operator lead text waits bytes o) (ap (λ (l : List ℕ). first_opening operator (places_from 0 l)) front ∙ none)
-    ∙ ap (λ (l : List ℕ). Ok (made text waits l (past_source_line operator bytes))) (source_again operator line rest whole alone)
-    ∙ ap (λ (r : List ℕ). Ok (made text waits line r)) (past_again operator line rest whole alone))
+    ∙ ap (λ (l : List ℕ). Ok (made text waits l (past_source_line operator bytes))) (source_again operator line rest whole alone fit)
+    ∙ ap (λ (r : List ℕ). Ok (made text waits line r)) (past_again operator line rest whole alone fit))
 
 -- a line that doesn't close the encrypted part, and what comes after it
-pub plain_again : (operator : List ℕ) (lead : ℕ) (text : List ℕ) (waits : Bool) (line rest : List ℕ) → is_line line ≡ true → first_opening operator (places_from 0 line) ≡ None → is_closefile line ≡ false → begins_border line ≡ false
+pub plain_again : (operator : List ℕ) (lead : ℕ) (text : List ℕ) (waits : Bool) (line rest : List ℕ) → is_line line ≡ true → first_opening operator (places_from 0 line) ≡ None → is_closefile line ≡ false → begins_closefile line ≡ false → fits line ≡ true → cut_len waits line ≡ None
     → private_onto operator lead text waits (line ++ 10 ∷ rest) ≡ private_onto operator lead (text ++ plain_text waits line) false rest
 unfolding made
-plain_again operator lead text waits line rest whole none stays alone =
+plain_again operator lead text waits line rest whole none stays alone fit uncut =
     private_more operator lead text waits (line ++ 10 ∷ rest)
-    ∙ ap (λ (r : Result PieceRead FontFault). r >>= go_on (private_onto operator lead)) (plain_read operator lead text waits line rest whole none (inl alone)) ∙ rw stays refl
+    ∙ ap (λ (r : Result PieceRead FontFault). r >>= go_on (private_onto operator lead)) (plain_read operator lead text waits line rest whole none (inl alone) fit) ∙ rw (stays, uncut) refl
 
 -- the line that closes it
-pub last_again : (operator : List ℕ) (lead : ℕ) (text : List ℕ) (line rest : List ℕ) → is_line line ≡ true → first_opening operator (places_from 0 line) ≡ None → is_closefile line ≡ true
+pub last_again : (operator : List ℕ) (lead : ℕ) (text : List ℕ) (line rest : List ℕ) → is_line line ≡ true → first_opening operator (places_from 0 line) ≡ None → is_closefile line ≡ true → fits line ≡ true → cut_len false line ≡ None
     → private_onto operator lead text false (line ++ 10 ∷ rest) ≡ Ok (text ++ plain_text false line, rest)
 unfolding made
-last_again operator lead text line rest whole none closes =
+last_again operator lead text line rest whole none closes fit uncut =
     private_more operator lead text false (line ++ 10 ∷ rest)
-    ∙ ap (λ (r : Result PieceRead FontFault). r >>= go_on (private_onto operator lead)) (plain_read operator lead text false line rest whole none (closes_alone line closes)) ∙ rw closes refl
+    ∙ ap (λ (r : Result PieceRead FontFault). r >>= go_on (private_onto operator lead)) (plain_read operator lead text false line rest whole none (closes_alone line closes) fit) ∙ rw (closes, uncut) refl
 
 -- ---- an entry
 

@@ -10,14 +10,16 @@ use Rattle.t1_disassemble.specs.declared.fault.FontFault.{FontFault}
 use Rattle.t1_disassemble.specs.declared.fault.FontPlace.TheVariants.{Entry}
 use Rattle.t1_disassemble.specs.Cuts.{pieces_after, pieces}
 use Rattle.t1_disassemble.specs.Front.{front_line, past_line}
+use Rattle.t1_disassemble.specs.Heads.{Head, head_over, past_head}
 use Rattle.t1_disassemble.specs.Opening.{Opening, first_opening}
 use Rattle.t1_disassemble.specs.Outcome.{font_reported_at}
-use Rattle.t1_disassemble.specs.PrivateText.{PieceRead, entry_piece, opened_piece, goes_on, opened_left, piece_left, before_text, entry_pieces_text, front_text, head_line}
+use Rattle.t1_disassemble.specs.PrivateText.{PieceRead, entry_piece, opened_piece, goes_on, past_headed, opened_left, piece_left, before_text, entry_pieces_text, front_text, head_line}
 use Rattle.t1_disassemble.specs.PiecesOnto.{entry_left, entry_onto, piece_onto, read_onto, text_onto, private_onto}
 use Rattle.t1_disassemble.specs.Words.{words_of_encrypted, printed_words}
 use Rattle.t1_disassemble.specs.WordsOnto.{words_onto}
 use Rattle.t1_disassemble.proofs.CutPieces.{IsLeft, left_short, left_twice, first_gone, dropped_once, left_pieces}
 use Rattle.t1_disassemble.proofs.Fronts.{line_left}
+use Rattle.t1_disassemble.proofs.HeadLaws.{head_past, past_left, past_short}
 
 -- what stands after some bytes, of which there is one, is shorter
 pub shorter_after : (count end : ℕ) (bytes : List ℕ) → 0 < length bytes → length (drop count (drop (end + 1) bytes)) < length bytes
@@ -35,8 +37,14 @@ pub opening_left : (operator : List ℕ) (c : ℕ) (bytes : List ℕ) (opening :
 opening_left operator c bytes None = elim (cases_Bool (goes_on operator (c ∷ bytes))) [
   | inl t ↦ rw t (first_gone c bytes (past_line (past_line (c ∷ bytes))) (left_twice (c ∷ bytes) (past_line (c ∷ bytes)) (past_line (past_line (c ∷ bytes))) (line_left (c ∷ bytes)) (line_left (past_line (c ∷ bytes))))
       (omega (arith, line_gone (c ∷ bytes) (omega arith), left_short (past_line (c ∷ bytes)) (past_line (past_line (c ∷ bytes))) (line_left (past_line (c ∷ bytes))))))
-  | inr f ↦ rw f (first_gone c bytes (past_line (c ∷ bytes)) (line_left (c ∷ bytes)) (line_gone (c ∷ bytes) (omega arith)))
+  | inr f ↦ rw f (headed (head_over (c ∷ bytes)) (λ h is. head_past (c ∷ bytes) h (omega arith) is))
 ]
+  where
+    headed : (found : Option Head) → ((h : Head) → found ≡ Some h → IsLeft (c ∷ bytes) h.rest × (length h.rest < length (c ∷ bytes))) → IsLeft bytes (past_headed operator (c ∷ bytes) found)
+    headed None each = first_gone c bytes (past_line (c ∷ bytes)) (line_left (c ∷ bytes)) (line_gone (c ∷ bytes) (omega arith))
+    headed (Some h) each =
+        let past = each h refl in
+        first_gone c bytes (past_head operator h) (past_left operator (c ∷ bytes) h past.0) (omega (arith, past.1, past_short operator h))
 opening_left operator c bytes (Some o) =
     first_gone c bytes (drop o.count (drop (o.end + 1) (c ∷ bytes)))
     (left_twice (c ∷ bytes) (drop (o.end + 1) (c ∷ bytes)) (drop o.count (drop (o.end + 1) (c ∷ bytes))) (o.end + 1, refl) (o.count, refl))

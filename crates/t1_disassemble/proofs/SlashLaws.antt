@@ -1,5 +1,5 @@
 -- Bytes without a slash have no section line in them.
-use Rattle.std.proofs.Common.{◌≡◌, ℕ, zero, suc, Bool, true, false, not, ◌==◌, ◌&&◌, ◌+◌, ◌≤◌, ◌<◌, List, [], ◌∷◌, ◌++◌, length, take, drop, codes, Option, None, refl, sym, ap, ◌∙◌, subst, inl, inr, arith}
+use Rattle.std.proofs.Common.{◌≡◌, ℕ, zero, suc, Bool, true, false, not, ◌==◌, ◌&&◌, ◌+◌, ◌≤◌, ◌<◌, List, [], ◌∷◌, ◌++◌, length, take, drop, take_all, codes, Option, None, refl, sym, ap, ◌∙◌, subst, inl, inr, arith}
 use Rattle.std.proofs.lemmas.Bool.{cases_Bool, and_parts, and_from, ne_eqb}
 use Rattle.std.proofs.lemmas.List.{take-take, take-append-drop}
 use Rattle.std.proofs.lemmas.List.Elements.{filter-append}
@@ -50,11 +50,11 @@ lines_free t h = split_free (unified t) (unified_free t h)
 -- ---- the tokens of such a line
 
 -- a word that doesn't begin with a slash
-abbrev free_word : List ℕ → Bool
+abbrev pub free_word : List ℕ → Bool
 free_word [] = true
 free_word (c ∷ w) = slashless c
 
-abbrev free : ℕ × List ℕ → Bool
+abbrev pub free : ℕ × List ℕ → Bool
 free t = free_word t.1
 
 joins_free : (i c : ℕ) (rest : List ℕ) (ts : List (ℕ × List ℕ)) → slashless c ≡ true → list_all free ts ≡ true → list_all free (joins_at i c rest ts) ≡ true
@@ -67,7 +67,7 @@ joins_free i c rest ts one h = elim (cases_Bool (token_goes_on rest)) [
     first [] k = and_from (slashless c) true one refl
     first (t ∷ more) k = and_from (slashless c) (list_all free more) one (and_parts (free t) (list_all free more) k).1
 
-places_free : (i : ℕ) (l : List ℕ) → list_all slashless l ≡ true → list_all free (places_from i l) ≡ true
+pub places_free : (i : ℕ) (l : List ℕ) → list_all slashless l ≡ true → list_all free (places_from i l) ≡ true
 places_free i [] h = refl
 places_free i (c ∷ rest) h =
     let parts = and_parts (slashless c) (list_all slashless rest) h in
@@ -89,11 +89,11 @@ not_true : (b : Bool) → not b ≡ true → b ≡ false
 not_true true h = sym h
 not_true false h = refl
 
-other_key : (w key : List ℕ) → free_word w ≡ true → bytes_eq w (47 ∷ key) ≡ false
+pub other_key : (w key : List ℕ) → free_word w ≡ true → bytes_eq w (47 ∷ key) ≡ false
 other_key [] key h = refl
 other_key (c ∷ w) key h = rw (not_true (c == 47) h) refl
 
-count_none : (key word : List ℕ) (ts : List (ℕ × List ℕ)) → list_all free ts ≡ true → count_between (47 ∷ key) word ts ≡ None
+pub count_none : (key word : List ℕ) (ts : List (ℕ × List ℕ)) → list_all free ts ≡ true → count_between (47 ∷ key) word ts ≡ None
 count_none key word [] h = refl
 count_none key word (a ∷ []) h = refl
 count_none key word (a ∷ n ∷ []) h = refl
@@ -129,13 +129,18 @@ passed test each front back h e =
 
 -- ---- the place of the first slash
 
-all_front : (bytes : List ℕ) (n : ℕ) → n ≤ prefix_len slashless bytes → list_all slashless (take n bytes) ≡ true
+pub all_front : (bytes : List ℕ) (n : ℕ) → n ≤ prefix_len slashless bytes → list_all slashless (take n bytes) ≡ true
 all_front bytes zero h = refl
 all_front [] (suc n) h = refl
 all_front (c ∷ rest) (suc n) h = elim (cases_Bool (slashless c)) [
   | inl t ↦ (let more : n ≤ prefix_len slashless rest = (let k = rw t at h in omega (arith, k)) in and_from (slashless c) (list_all slashless (take n rest)) t (all_front rest n more))
   | inr f ↦ (let k = rw f at h in absurd (omega (arith, k)))
 ]
+
+-- the first slash stands behind all of the bytes
+pub all_slashless : (bytes : List ℕ) (place : ℕ) → place ≡ prefix_len slashless bytes → length bytes ≤ place → list_all slashless bytes ≡ true
+all_slashless bytes place e within =
+    subst (λ (b : List ℕ). list_all slashless b ≡ true) (take_all (length bytes) bytes (omega arith)) (all_front bytes (length bytes) (omega (arith, e, within)))
 
 -- the byte there is no LF
 slash_is_no_feed : (c : ℕ) → slashless c ≡ false → (10 == c) ≡ false

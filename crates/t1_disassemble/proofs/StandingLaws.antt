@@ -13,7 +13,7 @@ use Rattle.t1_disassemble.specs.Outcome.{font_reported_at}
 use Rattle.t1_disassemble.specs.PieceLeft.{piece_of}
 use Rattle.t1_disassemble.specs.PiecesOnto.{entry_left, entry_onto, line_onto}
 use Rattle.t1_disassemble.specs.PrivateText.{PieceRead, piece_left, opened_left, source_line, past_source_line, head_line}
-use Rattle.t1_disassemble.specs.Standing.{Standing, line_judged, entry_judged, then_judged, pieces_judged, judged}
+use Rattle.t1_disassemble.specs.Standing.{Standing, text_judged, entry_judged, then_judged, pieces_judged, judged}
 use Rattle.t1_disassemble.specs.Stood.{judged_after}
 use Rattle.t1_disassemble.specs.Words.{words_of_encrypted}
 use Rattle.t1_disassemble.specs.WordsOnto.{words_onto}
@@ -36,7 +36,7 @@ judged_more operator lead (c ∷ bytes) waits s some =
 -- a line, behind which these bytes are left
 pub line_more : (operator : List ℕ) (lead : ℕ) (bytes : List ℕ) (waits : Bool) (s : Standing) → 0 < length bytes → opens operator bytes ≡ None
     → judged operator lead bytes waits s
-    ≡ (if is_closefile (source_line operator bytes) then line_judged operator lead waits s (source_line operator bytes) else judged operator lead (past_source_line operator bytes) false (line_judged operator lead waits s (source_line operator bytes)))
+    ≡ (if is_closefile (source_line operator bytes) then text_judged operator lead waits s (source_line operator bytes) else judged operator lead (past_source_line operator bytes) false (text_judged operator lead waits s (source_line operator bytes)))
 line_more operator lead bytes waits s some none =
     judged_more operator lead bytes waits s some
     ∙ ap (λ (o : Option Opening). then_judged (judged operator lead (opened_left operator bytes o)) operator lead waits s bytes o) none
@@ -51,7 +51,7 @@ entry_more operator lead bytes waits s o some found =
 -- ---- a piece that was read
 
 pub line_step : (operator text before bytes : List ℕ) (lead : ℕ) (waits : Bool) (s t : Standing) (piece : EntryRead) → 0 < length bytes → opens operator bytes ≡ None
-    → piece_of text piece ≡ line_onto operator before waits bytes → t ≡ line_judged operator lead waits s (source_line operator bytes) → judged_after operator lead piece t ≡ judged operator lead bytes waits s
+    → piece_of text piece ≡ line_onto operator before waits bytes → t ≡ text_judged operator lead waits s (source_line operator bytes) → judged_after operator lead piece t ≡ judged operator lead bytes waits s
 line_step operator text before bytes lead waits s t piece some none is e =
     let last : piece.is_last ≡ is_closefile (source_line operator bytes) = ap PieceRead.is_last is in
     let waiting : piece.waits ≡ false = ap PieceRead.waits is in

@@ -31,11 +31,11 @@ use Rattle.t1_disassemble.specs.PiecesOnto.{private_onto}
 use Rattle.t1_disassemble.specs.SegmentsRead.{FontParts}
 use Rattle.t1_disassemble.specs.SourceOnto.{plain_onto, source_onto}
 use Rattle.t1_disassemble.specs.Standing.{stands}
-use Rattle.t1_disassemble.specs.Settings.{opens_section, said_on, lead_said, reading_operator, leading_bytes}
+use Rattle.t1_disassemble.specs.Settings.{opens_section, before_section, operator_said, lead_before, said_on, lead_said, reading_operator, leading_bytes}
 use Rattle.t1_disassemble.proofs.Deciphering.{private_again as deciphered_again}
 use Rattle.t1_disassemble.proofs.FrontLaws.{line_front, line_past}
 use Rattle.t1_disassemble.proofs.Fronts.{eexec_more}
-use Rattle.t1_disassemble.proofs.ItemLaws.{private_again}
+use Rattle.t1_disassemble.proofs.ItemLaws.{reads, private_again}
 use Rattle.t1_disassemble.proofs.JudgedItems.{stands_again}
 use Rattle.t1_disassemble.proofs.SegmentLaws.{pfb_again}
 use Rattle.t1_disassemble.proofs.Sources.{source_same}
@@ -54,13 +54,13 @@ lines_front l rest h =
 operator_step : (l : List ℕ) (ls ms : List (List ℕ)) → (opens_section l ≡ false → reading_operator ls ≡ reading_operator ms) → reading_operator (l ∷ ls) ≡ reading_operator (l ∷ ms)
 operator_step l ls ms same = elim (cases_Bool (opens_section l)) [
   | inl t ↦ rw t refl
-  | inr f ↦ ap (λ (r : List ℕ). if opens_section l then codes "RD" else (if holds (codes "string currentfile") l then unwrap_or (operator_on l) (codes "RD") else r)) (same f)
+  | inr f ↦ ap (λ (r : List ℕ). if opens_section l then operator_said (before_section l) else (if holds (codes "string currentfile") l then unwrap_or (operator_on l) (codes "RD") else r)) (same f)
 ]
 
 lead_step : (l : List ℕ) (ls ms : List (List ℕ)) → (opens_section l ≡ false → leading_bytes ls ≡ leading_bytes ms) → leading_bytes (l ∷ ls) ≡ leading_bytes (l ∷ ms)
 lead_step l ls ms same = elim (cases_Bool (opens_section l)) [
   | inl t ↦ rw t refl
-  | inr f ↦ ap (λ (r : Result ℕ FontCode). if opens_section l then Ok 4 else (if is_some (said_on l) then lead_said (unwrap_or (said_on l) None) else r)) (same f)
+  | inr f ↦ ap (λ (r : Result ℕ FontCode). if opens_section l then lead_before (said_on (before_section l)) else (if is_some (said_on l) then lead_said (unwrap_or (said_on l) None) else r)) (same f)
 ]
 
 later : (l : List ℕ) (fs : List (List ℕ)) → list_any opens_section (l ∷ fs) ≡ true → opens_section l ≡ false → list_any opens_section fs ≡ true
@@ -80,7 +80,7 @@ line_says l rest fs h same more =
     )
 
 whole_line : (operator line : List ℕ) → reads_line operator line ≡ true → is_line line ≡ true
-whole_line operator line h = (and_parts (is_line line) _ (and_parts _ _ (and_parts _ _ h).0).0).0
+whole_line operator line h = (reads operator line h).whole
 
 absent : (l : List ℕ) → list_any opens_section (l ∷ []) ≡ true → opens_section l ≡ false → ⊥
 absent l h f = let none : false ≡ true = rw f at h in cc
@@ -217,8 +217,8 @@ source_again clear operator lead items last bytes trailer is made =
     ∙ ap (source_onto (joined clear) parts) (coded_again private).0
     ∙ ap (plain_onto (joined clear) parts coded) (coded_again private).1
     ∙ plain_again (joined clear) parts coded private operator all [] lead (says.1 ∙ is.said.leads) (says.0 ∙ is.said.reads)
-    (private_again operator lead items bytes (joined clear) last [] is.said.name is.said.small is.each made is.end.line is.end.none is.end.closes) (single_after (joined clear) (joined (source_lines items last)) is.single)
-    (stands_again operator lead items bytes last [] is.said.name is.said.small is.each made is.end.line is.end.none is.end.closes is.kept)
+    (private_again operator lead items bytes (joined clear) last [] is.said.name is.said.small is.each made is.end.line is.end.none is.end.closes is.end.fit is.end.uncut) (single_after (joined clear) (joined (source_lines items last)) is.single)
+    (stands_again operator lead items bytes last [] is.said.name is.said.small is.each made is.end.line is.end.none is.end.closes is.end.fit is.end.uncut is.kept)
     ∙ ap (λ t. Ok (all ++ joined (tail_of (lines t)))) (tail_again (joined clear) coded trailer coded (4 + (length private - 0)) some)
 
 pub file_again : (size : ℕ) (clear : List (List ℕ)) (operator : List ℕ) (lead : ℕ) (items : List Item) (last bytes trailer : List ℕ) → 1 ≤ size → size < 2 ^ 32 → IsReadBack clear operator lead items last → items_text lead operator items ≡ Ok bytes

@@ -1,5 +1,5 @@
 -- What laws say of files that are read back.
-use Rattle.std.specs.Prelude.{◌≡◌, ◌⊎◌, ℕ, ◌<◌, ◌≤◌, ◌^◌, ◌&&◌, true, false, nat_lt, not, Bool, is_none, if◌then◌else◌, List, [], ◌∷◌, ◌++◌, length, flat_map, map, codes, decimal, Result, Ok}
+use Rattle.std.specs.Prelude.{◌≡◌, ◌⊎◌, ℕ, ◌<◌, ◌≤◌, ◌^◌, ◌&&◌, ◌||◌, true, false, nat_lt, not, Bool, is_none, if◌then◌else◌, List, [], ◌∷◌, ◌++◌, length, flat_map, map, codes, decimal, Result, Ok}
 use Rattle.std.specs.Fmt.{signed_decimal}
 use Rattle.std.specs.Str.{bytes_eq}
 use Rattle.std.specs.List.{AllByRecursion, list_all, list_any}
@@ -17,9 +17,10 @@ use Rattle.t1_parts.specs.declared.item.Item.TheVariants.{Plain, Section, Subr, 
 use Rattle.t1_parts.specs.Parts.{is_closefile, is_eexec}
 use Rattle.t1_parts.specs.Printing.{item_lines}
 use Rattle.t1_disassemble.specs.Kinds.{plain_kind, single_sections}
-use Rattle.t1_disassemble.specs.Layouts.{begins_border}
+use Rattle.t1_disassemble.specs.Layouts.{begins_closefile}
 use Rattle.t1_disassemble.specs.Opening.{first_opening}
-use Rattle.t1_disassemble.specs.Settings.{opens_section, reading_operator, leading_bytes}
+use Rattle.t1_disassemble.specs.PrivateText.{cut_len}
+use Rattle.t1_disassemble.specs.Settings.{heads_section, opens_section, is_section_name, reading_operator, leading_bytes}
 use Rattle.t1_disassemble.specs.Standing.{Standing, fresh, line_judged, entry_judged, all_kept}
 
 -- profile: the bytes of blocks, one after another
@@ -65,14 +66,30 @@ abbrev pub items_text : ℕ → List ℕ → List Item → Result (List ℕ) Cod
 items_text lead operator [] = Ok []
 items_text lead operator (item ∷ items) = item_text lead operator item >>= λ text. items_text lead operator items >>= λ texts. Ok (text ++ texts)
 
+-- profile: whether a section's name is a token of a line
+abbrev pub names_section : List ℕ → Bool
+names_section line = list_any (λ t. is_section_name t.1) (places_from 0 line)
+
+-- profile: whether a line that names a section is a section line, so that no head goes on with the next line
+abbrev pub fits : List ℕ → Bool
+fits line = not (names_section line) || heads_section line
+
 -- profile: whether a line, or a closing text after its space, reads as itself: it has no line end, opens no entry of a font, doesn't
--- close the encrypted part, and doesn't end as the first of two lines does that a source has as one
+-- close the encrypted part, doesn't end as the first of two lines does that a source has as one, and names no section unless it is a
+-- section line, of which nothing is cut off
 abbrev pub reads_line : List ℕ → List ℕ → Bool
-reads_line operator line = is_line line && is_none (first_opening operator (places_from 0 line)) && not (is_closefile line) && not (begins_border line)
+reads_line operator line =
+    is_line line
+    && is_none (first_opening operator (places_from 0 line))
+    && not (is_closefile line)
+    && not (begins_closefile line)
+    && fits line
+    && is_none (cut_len false line)
 
 -- profile: whether a closing text does, and has no blanks at its ends
 abbrev pub reads_closing : List ℕ → List ℕ → Bool
-reads_closing operator closing = bytes_eq (trimmed closing) closing && reads_line operator (closing_text closing)
+reads_closing operator closing =
+    bytes_eq (trimmed closing) closing && reads_line operator (closing_text closing) && is_none (cut_len true (closing_text closing))
 
 -- profile: whether an item of an assembled font reads as itself
 abbrev pub reads_item : List ℕ → Item → Bool
@@ -123,6 +140,8 @@ pub record IsLast (operator last : List ℕ) : Type 0 where
   pub line : is_line last ≡ true
   pub none : is_none (first_opening operator (places_from 0 last)) ≡ true
   pub closes : is_closefile last ≡ true
+  pub fit : fits last ≡ true
+  pub uncut : is_none (cut_len false last) ≡ true
 
 -- profile: the lines of items and of the line that closes the encrypted part, in the source that comes back
 abbrev pub source_lines : List Item → List ℕ → List (List ℕ)

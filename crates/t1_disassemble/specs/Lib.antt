@@ -10,6 +10,8 @@ pub mod Disassembly
 pub mod FilePlaced
 pub mod FilePlaces
 pub mod Front
+pub mod Heads
+pub mod HeadsFound
 pub mod InPlace
 pub mod Kinds
 pub mod KnownCommands

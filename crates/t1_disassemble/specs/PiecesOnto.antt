@@ -10,7 +10,7 @@ use Rattle.t1_disassemble.specs.Cuts.{pieces}
 use Rattle.t1_disassemble.specs.Front.{front_line}
 use Rattle.t1_disassemble.specs.Opening.{Opening, first_opening}
 use Rattle.t1_disassemble.specs.Outcome.{font_fault_at, font_reported_at}
-use Rattle.t1_disassemble.specs.PrivateText.{PieceRead, plain_text, front_text, head_line, source_line, past_source_line, piece_left, entry_pieces_text}
+use Rattle.t1_disassemble.specs.PrivateText.{PieceRead, line_text, front_text, head_line, source_line, past_source_line, piece_left, entry_pieces_text}
 use Rattle.t1_disassemble.specs.Words.{words_of_encrypted}
 use Rattle.t1_disassemble.specs.WordsOnto.{words_onto}
 
@@ -28,7 +28,7 @@ entry_onto lead text o bytes =
 -- word: a line after a text
 abbrev pub line_onto : List ℕ → List ℕ → Bool → List ℕ → PieceRead
 line_onto operator text waits bytes =
-    record { text = text ++ plain_text waits (source_line operator bytes); waits = false; rest = past_source_line operator bytes; is_last = is_closefile (source_line operator bytes) }
+    record { text = text ++ line_text waits (source_line operator bytes); waits = false; rest = past_source_line operator bytes; is_last = is_closefile (source_line operator bytes) }
 
 -- word: an entry, or a line, after a text
 abbrev pub piece_onto : List ℕ → ℕ → List ℕ → Bool → List ℕ → Option Opening → Result PieceRead FontFault

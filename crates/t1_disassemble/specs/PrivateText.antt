@@ -1,28 +1,48 @@
 -- The private text of a font, read into the lines of a source.
-use Rattle.std.specs.Prelude.{ℕ, ◌+◌, ◌&&◌, is_none, nat_lt, Bool, true, false, ◌==◌, if◌then◌else◌, Option, None, Some, List, [], ◌∷◌, ◌++◌, take, drop, length, codes, Result, Ok, Err}
+use Rattle.std.specs.Prelude.{ℕ, ◌+◌, ◌&&◌, ◌||◌, is_none, is_some, nat_lt, Bool, true, false, ◌==◌, if◌then◌else◌, Option, None, Some, List, [], ◌∷◌, ◌++◌, take, drop, length, codes, Result, Ok, Err}
 use Rattle.t1_frac.specs.Ascii.{line_feed}
 use Rattle.t1_frac.specs.Outcome.{◌>>=◌}
 use Rattle.t1_text.specs.Lines.{trimmed}
 use Rattle.t1_text.specs.Tokens.{places_from}
-use Rattle.t1_parts.specs.Parts.{is_closefile}
+use Rattle.t1_parts.specs.Parts.{holds, is_closefile}
 use Rattle.t1_parts.specs.Printing.{last_line}
 use Rattle.t1_disassemble.specs.declared.fault.FontCode.TheVariants.{D4, D5}
 use Rattle.t1_disassemble.specs.declared.fault.FontFault.{FontFault}
 use Rattle.t1_disassemble.specs.declared.fault.FontPlace.TheVariants.{Nowhere, Entry}
 use Rattle.t1_disassemble.specs.Cuts.{pieces}
 use Rattle.t1_disassemble.specs.Front.{front_line, past_line}
+use Rattle.t1_disassemble.specs.Heads.{Head, head_over, head_text, past_head}
 use Rattle.t1_disassemble.specs.Layouts.{are_one, one_line}
 use Rattle.t1_disassemble.specs.Opening.{Opening, first_opening}
 use Rattle.t1_disassemble.specs.Outcome.{font_fault_at, font_reported_at}
+use Rattle.t1_disassemble.specs.Settings.{heads_section, before_section, said_on}
 use Rattle.t1_disassemble.specs.Words.{words_of_encrypted, printed_words}
 
 -- profile: what stands between two entries, or lines: the closing text of an entry that waits for it, or a line as it stands
 abbrev pub plain_text : Bool → List ℕ → List ℕ
 plain_text waits line = (if waits then last_line (trimmed line) else line) ++ line_feed ∷ []
 
+-- profile, layouts: whether a line says something of the reading operator or of lenIV
+abbrev pub says_settings : List ℕ → Bool
+says_settings l = holds (codes "string currentfile") l || is_some (said_on l)
+
+-- profile, layouts: how many bytes of a section line are cut off, as a line of their own or as a closing text: those before the section's
+-- name, where they are a closing text, or say something of the reading operator or of lenIV
+abbrev pub cut_len : Bool → List ℕ → Option ℕ
+cut_len waits l = if heads_section l && (waits || says_settings (before_section l)) then Some (length (before_section l)) else None
+
+-- profile, layouts: a line, or two
+abbrev pub cut_text : Bool → List ℕ → Option ℕ → List ℕ
+cut_text waits l None = plain_text waits l
+cut_text waits l (Some n) = plain_text waits (take n l) ++ plain_text false (drop n l)
+
+-- profile, layouts: a line with what stands before a section's name on it cut off, where that has to be
+abbrev pub line_text : Bool → List ℕ → List ℕ
+line_text waits l = cut_text waits l (cut_len waits l)
+
 -- profile: what stands on a line before an entry: the same, but blanks alone are no line
 abbrev pub front_text : Bool → List ℕ → List ℕ
-front_text waits front = if waits then plain_text true front else (if length (trimmed front) == 0 then [] else plain_text false front)
+front_text waits front = if waits then line_text true front else (if length (trimmed front) == 0 then [] else line_text false front)
 
 -- profile: the first line of an entry
 abbrev pub head_line : List ℕ → List ℕ
@@ -48,18 +68,28 @@ abbrev pub goes_on : List ℕ → List ℕ → Bool
 goes_on operator bytes =
     are_one (front_line bytes) (front_line (past_line bytes)) && is_none (first_opening operator (places_from 0 (front_line (past_line bytes))))
 
--- profile, layouts: the first line, with the next one where both are one
+-- profile, layouts: the first line, or the section line of a head that begins on it
+abbrev pub headed_line : List ℕ → List ℕ → Option Head → List ℕ
+headed_line operator bytes None = front_line bytes
+headed_line operator bytes (Some h) = head_text operator bytes h
+
+-- profile, layouts: the same, with the next one where both close the encrypted part
 abbrev pub source_line : List ℕ → List ℕ → List ℕ
-source_line operator bytes = if goes_on operator bytes then one_line (front_line bytes) (front_line (past_line bytes)) else front_line bytes
+source_line operator bytes = if goes_on operator bytes then one_line (front_line bytes) (front_line (past_line bytes)) else headed_line operator bytes (head_over bytes)
+
+-- profile, layouts: the bytes after a line, or after a head
+abbrev pub past_headed : List ℕ → List ℕ → Option Head → List ℕ
+past_headed operator bytes None = past_line bytes
+past_headed operator bytes (Some h) = past_head operator h
 
 -- profile, layouts: the bytes after it
 abbrev pub past_source_line : List ℕ → List ℕ → List ℕ
-past_source_line operator bytes = if goes_on operator bytes then past_line (past_line bytes) else past_line bytes
+past_source_line operator bytes = if goes_on operator bytes then past_line (past_line bytes) else past_headed operator bytes (head_over bytes)
 
 -- Type 1 Font Format, 2.4: a whole line, or the rest of one, which may close the encrypted part
 abbrev pub line_piece : List ℕ → Bool → List ℕ → PieceRead
 line_piece operator waits bytes =
-    record { text = plain_text waits (source_line operator bytes); waits = false; rest = past_source_line operator bytes; is_last = is_closefile (source_line operator bytes) }
+    record { text = line_text waits (source_line operator bytes); waits = false; rest = past_source_line operator bytes; is_last = is_closefile (source_line operator bytes) }
 
 -- profile: the entry that opens on the first line, or that line where none does
 abbrev pub opened_piece : List ℕ → ℕ → Bool → List ℕ → Option Opening → Result PieceRead FontFault

@@ -1,6 +1,6 @@
 -- What a reader of the source makes of the private lines that are written: where it stands among the sections, and which entry of
 -- the font it would lose, or read where the font has none.
-use Rattle.std.specs.Prelude.{ℕ, ◌&&◌, ◌||◌, not, nat_lt, is_some, Bool, true, false, ◌==◌, if◌then◌else◌, Option, None, Some, option_map, unwrap_or, List, [], ◌∷◌, ◌++◌, take, codes, Result, Ok, Err}
+use Rattle.std.specs.Prelude.{ℕ, ◌&&◌, ◌||◌, not, nat_lt, is_some, Bool, true, false, ◌==◌, if◌then◌else◌, Option, None, Some, option_map, unwrap_or, List, [], ◌∷◌, ◌++◌, take, drop, codes, Result, Ok, Err}
 use Rattle.std.specs.Str.{bytes_eq}
 use Rattle.t1_frac.specs.Ascii.{slash}
 use Rattle.t1_text.specs.Lines.{begins_with}
@@ -23,7 +23,7 @@ use Rattle.t1_disassemble.specs.Cuts.{pieces}
 use Rattle.t1_disassemble.specs.Front.{front_line}
 use Rattle.t1_disassemble.specs.Opening.{Opening, first_opening}
 use Rattle.t1_disassemble.specs.Outcome.{font_fault_at}
-use Rattle.t1_disassemble.specs.PrivateText.{source_line, piece_left}
+use Rattle.t1_disassemble.specs.PrivateText.{source_line, cut_len, piece_left}
 use Rattle.t1_disassemble.specs.Settings.{said_on}
 
 -- profile: whether a source has said something, and whether what it says is other than what the font was read by
@@ -183,6 +183,21 @@ line_judged operator lead waits s l =
     if waits then outside_judged operator s l
     else (if is_closefile l then outside_judged operator (said_judged operator lead s l) l else plain_judged operator lead s l)
 
+-- profile, layouts: what is cut off before a section's name, which doesn't close the encrypted part
+abbrev pub front_judged : List ℕ → ℕ → Bool → Standing → List ℕ → Standing
+front_judged operator lead waits s front =
+    if is_closefile front then losing [] (line_judged operator lead waits s front) else line_judged operator lead waits s front
+
+-- profile, layouts: the same, and the section line
+abbrev pub cut_judged : List ℕ → ℕ → Bool → Standing → List ℕ → Option ℕ → Standing
+cut_judged operator lead waits s l None = line_judged operator lead waits s l
+cut_judged operator lead waits s l (Some n) =
+    line_judged operator lead false (front_judged operator lead waits s (take n l)) (drop n l)
+
+-- profile, layouts: a line with what stands before a section's name on it cut off, where that has to be
+abbrev pub text_judged : List ℕ → ℕ → Bool → Standing → List ℕ → Standing
+text_judged operator lead waits s l = cut_judged operator lead waits s l (cut_len waits l)
+
 -- profile, entries: whether a source may have an entry of this name in a part
 abbrev pub may_stand : Part → List ℕ → Bool
 may_stand Front name = false
@@ -198,11 +213,11 @@ entry_stands name s =
 -- profile, entries: an entry behind what stands on a line before it, which doesn't close the encrypted part
 abbrev pub entry_judged : List ℕ → ℕ → Bool → Standing → List ℕ → List ℕ → Standing
 entry_judged operator lead waits s front name =
-    entry_stands name (if is_closefile front then losing name (line_judged operator lead waits s front) else line_judged operator lead waits s front)
+    entry_stands name (if is_closefile front then losing name (text_judged operator lead waits s front) else text_judged operator lead waits s front)
 
 -- profile: a piece of the private text
 abbrev pub piece_judged : List ℕ → ℕ → Bool → Standing → List ℕ → Option Opening → Standing
-piece_judged operator lead waits s bytes None = line_judged operator lead waits s (source_line operator bytes)
+piece_judged operator lead waits s bytes None = text_judged operator lead waits s (source_line operator bytes)
 piece_judged operator lead waits s bytes (Some o) = entry_judged operator lead waits s (take o.at bytes) o.name
 
 -- profile: whether a piece closes the encrypted part

@@ -1,8 +1,8 @@
 //! Fonts of kinds that aren't read.
 ghost use Rattle.std.specs.Prelude.{◌≡◌, ◌<◌, ◌≤◌, ◌||◌, Ok, Err, if◌then◌else◌, List, ℕ};
-ghost use Rattle.std.specs.Prelude.{[], ◌∷◌, ◌^◌, false, None, filter, length, IfSome, MatchOption};
+ghost use Rattle.std.specs.Prelude.{[], ◌∷◌, ◌^◌, true, false, None, filter, length, IfSome, MatchOption};
 ghost use Rattle.std.specs.Prelude.{MatchResult};
-ghost use Rattle.std.specs.List.{prefix_len};
+ghost use Rattle.std.specs.List.{list_all, prefix_len};
 ghost use Rattle.t1_text.specs.Lines.{lines};
 ghost use Rattle.t1_parts.specs.Sections.{subrs_line, glyphs_line};
 ghost use Rattle.t1_disassemble.specs.Kinds.{without, plain_kind, is_line_of};
@@ -98,6 +98,14 @@ fn slash_place(bytes: &[u8]) -> usize
     ensures value { result ≡ prefix_len slashless bytes.now }
 {
     memchr(b'/', bytes).unwrap_or(bytes.len())
+}
+
+/// Whether a slash stands in a line, as in each section line and each glyph's head.
+#[tactic(auto, using(crate::proofs::SlashLaws::all_slashless))]
+pub(crate) fn has_slash(line: &[u8]) -> bool
+    ensures { result ≡ false → list_all slashless line.now ≡ true }
+{
+    slash_place(line) < line.len()
 }
 
 /// The next line with a slash in it, and the bytes after it. Each section line has one.

@@ -1,9 +1,9 @@
 //! Lines that a source has in another layout than the font.
 ghost use Rattle.std.specs.Prelude.{◌≡◌, ◌<◌, ◌^◌, true, length, IfOk, OnOk};
 ghost use Rattle.t1_parts.specs.Parts.{is_closefile};
-ghost use Rattle.t1_disassemble.specs.Layouts.{is_border, begins_border, one_line, are_one};
+ghost use Rattle.t1_disassemble.specs.Layouts.{is_border, begins_closefile, one_line, are_one};
 
-use crate::settings::{begins_section, is_section};
+use crate::settings::is_section;
 use std::alloc::AllocError;
 use t1_parts::ends_in;
 use t1_text::trimmed;
@@ -26,15 +26,15 @@ fn is_border(line: &[u8]) -> bool
 /// How many bytes a line has at least that such a line may begin on.
 const SHORTEST: usize = 4;
 
-/// Whether such a line may begin here and go on with the next.
+/// Whether the line that closes the encrypted part may begin here and go on with the next.
 #[tactic(auto, using(crate::proofs::BorderLaws::short_begins))]
-fn begins_border(line: &[u8]) -> bool
-    ensures { result ≡ begins_border line.now }
+fn begins_closefile(line: &[u8]) -> bool
+    ensures { result ≡ begins_closefile line.now }
 {
     if line.len() < SHORTEST {
         return false;
     }
-    begins_section(line) || ends_in(b"mark", line) || ends_in(b"mark currentfile", line)
+    ends_in(b"mark", line) || ends_in(b"mark currentfile", line)
 }
 
 /// Puts two lines, as one, in the place of what the buffer holds.
@@ -56,12 +56,12 @@ pub(crate) fn are_one(buffer: &mut Vec<u8>, line: &[u8], next: &[u8]) -> Result<
     ensures joined { IfOk result
         (λ one. one ≡ true → buffer.new.items ≡ one_line line.now next.now) }
 {
-    if !begins_border(line) {
+    if !begins_closefile(line) {
         return Ok(false);
     }
     if is_border(line) || is_border(next) {
         return Ok(false);
     }
     join_lines(buffer, line, next)?;
-    Ok(is_border(buffer))
+    Ok(is_closefile(buffer))
 }

@@ -14,6 +14,7 @@ mod digits;
 mod disassembly;
 mod fault;
 mod front;
+mod heads;
 mod kinds;
 mod known;
 mod known_command;

@@ -1,9 +1,10 @@
 //! The private text of a font, read into the lines of a source.
 ghost use Rattle.std.specs.Prelude.{◌≡◌, ◌<◌, ◌≤◌, ◌+◌, ◌^◌, ◌&&◌, is_none, ℕ, suc, ◌++◌, ◌∷◌, []};
-ghost use Rattle.std.specs.Prelude.{true, false, length, take, drop, IfOk, OnOk};
+ghost use Rattle.std.specs.Prelude.{true, false, length, take, drop, IfOk, IfSome, OnOk};
 ghost use Rattle.t1_frac.specs.Ascii.{line_feed};
 ghost use Rattle.t1_text.specs.Lines.{after_end};
 ghost use Rattle.t1_text.specs.Tokens.{places_from};
+ghost use Rattle.t1_parts.specs.Parts.{is_closefile};
 ghost use Rattle.t1_parts.specs.Printing.{last_line};
 ghost use Rattle.t1_disassemble.specs.declared.fault.FontPlace.TheVariants.{Entry};
 ghost use Rattle.t1_disassemble.specs.Front.{line_len};
@@ -16,18 +17,21 @@ ghost use Rattle.t1_disassemble.specs.Placed.{IsPlaced};
 ghost use Rattle.t1_disassemble.specs.PiecesOnto.{line_onto, entry_left, entry_onto, read_onto};
 ghost use Rattle.t1_disassemble.specs.PiecesOnto.{private_onto};
 ghost use Rattle.t1_disassemble.specs.PrivateText.{plain_text, front_text, head_line};
-ghost use Rattle.t1_disassemble.specs.PrivateText.{source_line};
-ghost use Rattle.t1_disassemble.specs.Standing.{line_judged, judged};
+ghost use Rattle.t1_disassemble.specs.PrivateText.{source_line, cut_len, line_text};
+ghost use Rattle.t1_disassemble.specs.Standing.{text_judged, judged};
 ghost use Rattle.t1_disassemble.specs.Stood.{standing_of, judged_after};
 ghost use Rattle.t1_disassemble.specs.Words.{words_of_encrypted};
 ghost use Rattle.t1_disassemble.specs.WordsOnto.{words_onto};
 
 use crate::fault::{FontCode, FontFault, FontPlace, FontRefusal};
 use crate::front::{line_len, line_len_after, past};
+use crate::heads::{head_over, put_head_line};
+use crate::kinds::has_slash;
 use crate::known::Known;
 use crate::layouts::{are_one, is_closefile};
 use crate::lines::Lines;
 use crate::opening::{Opening, first_opening};
+use crate::settings::{before_section, is_section, says_settings};
 use crate::standing::Standing;
 use std::alloc::{AllocError, Global};
 use t1_frac::Bytes;
@@ -54,14 +58,47 @@ fn push_plain<T: Lines>(text: &mut T, waits: bool, line: &[u8]) -> Result<(), Al
     text.add_line(line, b"", b"")
 }
 
+/// How many bytes of a section line are cut off, where they are a closing text, or say something of
+/// the reading operator or of lenIV.
+#[tactic(auto, using(crate::proofs::HeadLaws::no_section))]
+pub(crate) fn cut_len(waits: bool, line: &[u8]) -> Option<usize>
+    requires { length line.now < 2 ^ 63 }
+    ensures value { result ≡ cut_len waits line.now }
+    ensures within { IfSome result (λ len. len ≤ length line.now) }
+{
+    if !has_slash(line) || !is_section(line) {
+        return None;
+    }
+    let front = before_section(line);
+    if waits || says_settings(front) {
+        return Some(front.len());
+    }
+    None
+}
+
+/// Adds a line, or the closing text of an entry that waits for it, with what stands before a
+/// section's name cut off where that has to be.
+fn push_text<T: Lines>(text: &mut T, waits: bool, line: &[u8]) -> Result<(), AllocError>
+    requires { length line.now < 2 ^ 63 }
+    ensures { OnOk result (T.text text.new ≡ T.text text.old ++ line_text waits line.now) }
+{
+    let Some(len) = cut_len(waits, line) else {
+        return push_plain(text, waits, line);
+    };
+    let (front, section) = line.split_at(len);
+    push_plain(text, waits, front)?;
+    push_plain(text, false, section)
+}
+
 /// Adds what stands on a line before an entry.
 fn push_front<T: Lines>(text: &mut T, waits: bool, front: &[u8]) -> Result<(), AllocError>
+    requires { length front.now < 2 ^ 63 }
     ensures { OnOk result (T.text text.new ≡ T.text text.old ++ front_text waits front.now) }
 {
     if !waits && trimmed(front).is_empty() {
         return Ok(());
     }
-    push_plain(text, waits, front)
+    push_text(text, waits, front)
 }
 
 /// What an entry is called: `dup` and its number, or its name.
@@ -152,7 +189,7 @@ pub(crate) fn up_to(bytes: &[u8], count: usize) -> &[u8]
 }
 
 /// The bytes after a line end, of which CR LF is one.
-fn after_end(bytes: &[u8]) -> &[u8]
+pub(crate) fn after_end(bytes: &[u8]) -> &[u8]
     ensures { result.now ≡ after_end bytes.now }
 {
     match bytes {
@@ -214,8 +251,42 @@ fn goes_on(
     Ok(one && first_opening(operator, next).is_none())
 }
 
-/// Adds the line that stands at the front, with the next one where both are one in the source, and
-/// answers what is left.
+/// Adds a line that was put together, in front of the rest.
+fn push_joined<'a, T: Lines>(
+    text: &mut T,
+    standing: &mut Standing,
+    settings: &Settings,
+    waits: bool,
+    line: &[u8],
+    rest: &'a [u8],
+) -> Result<EntryRead<'a>, AllocError>
+    requires { length line.now < 2 ^ 63 }
+    ensures value { IfOk
+        result
+        (λ piece. piece_of (T.text text.new) piece
+        ≡ record {
+          text = T.text text.old ++ line_text waits line.now;
+          waits = false;
+          rest = rest.now;
+          is_last = is_closefile line.now;
+        }) }
+    ensures end { IfOk result (λ piece. piece.end ≡ line_len piece.rest.now) }
+    ensures standing { OnOk result (standing_of standing.new
+        ≡ text_judged settings.now.operator.now settings.now.lead waits (standing_of standing.old)
+        line.now) }
+{
+    push_text(text, waits, line)?;
+    standing.judge_text(settings, waits, line)?;
+    Ok(EntryRead {
+        rest,
+        end: line_len(rest),
+        waits: false,
+        is_last: is_closefile(line),
+    })
+}
+
+/// Adds the line that stands at the front, or the section line of a head that begins there, or both
+/// lines that close the encrypted part, and answers what is left.
 #[tactic(auto, using(t1_text::proofs::CutLaws::line_gone, t1_text::proofs::CutLaws::after_within))]
 fn push_whole_line<'a, T: Lines>(
     text: &mut T,
@@ -236,7 +307,7 @@ fn push_whole_line<'a, T: Lines>(
     ensures shorter { IfOk result (λ piece. length piece.rest.now < length bytes.now) }
     ensures end { IfOk result (λ piece. piece.end ≡ line_len piece.rest.now) }
     ensures standing { OnOk result (standing_of standing.new
-        ≡ line_judged settings.now.operator.now settings.now.lead waits (standing_of standing.old)
+        ≡ text_judged settings.now.operator.now settings.now.lead waits (standing_of standing.old)
         (source_line settings.now.operator.now bytes.now)) }
 {
     let (line, ended) = bytes.split_at(end);
@@ -244,18 +315,22 @@ fn push_whole_line<'a, T: Lines>(
     let next_end = line_len(rest);
     let (next, next_ended) = rest.split_at(next_end);
     if goes_on(buffer, settings.operator, line, next)? {
-        push_plain(text, waits, buffer)?;
-        standing.judge_line(settings, waits, buffer)?;
-        let after = after_end(next_ended);
-        return Ok(EntryRead {
-            rest: after,
-            end: line_len(after),
-            waits: false,
-            is_last: is_closefile(buffer),
-        });
+        return push_joined(
+            text,
+            standing,
+            settings,
+            waits,
+            buffer,
+            after_end(next_ended),
+        );
     }
-    push_plain(text, waits, line)?;
-    standing.judge_line(settings, waits, line)?;
+    if let Some(head) = head_over(end, bytes) {
+        let rest = put_head_line(buffer, settings.operator, bytes, &head)?;
+        let piece = push_joined(text, standing, settings, waits, buffer, rest)?;
+        return Ok(piece);
+    }
+    push_text(text, waits, line)?;
+    standing.judge_text(settings, waits, line)?;
     Ok(EntryRead {
         rest,
         end: next_end,
@@ -326,8 +401,7 @@ pub(crate) fn push_private<'a, T: Lines>(
         bytes.now) }
     ensures within { IfOk result (λ rest. length rest.now ≤ length bytes.now) }
     ensures standing { OnOk result (standing_of standing.new
-        ≡ judged settings.now.operator.now settings.now.lead bytes.now false
-        (standing_of standing.old)) }
+        ≡ judged settings.now.operator.now settings.now.lead bytes.now false (standing_of standing.old)) }
 {
     let known = Known::new(alloc)?;
     text.make_room(bytes.len())?;

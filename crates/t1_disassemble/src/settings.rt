@@ -5,13 +5,16 @@ ghost use Rattle.std.specs.List.{suffix_len};
 ghost use Rattle.t1_text.specs.Lines.{lines};
 ghost use Rattle.t1_parts.specs.Sections.{subrs_line, glyphs_line};
 ghost use Rattle.t1_disassemble.specs.Settings.{heads_section, undigited, ends_in_key};
-ghost use Rattle.t1_disassemble.specs.Settings.{begins_section};
+ghost use Rattle.t1_disassemble.specs.Settings.{begins_section, is_section_name, name_place};
+ghost use Rattle.t1_disassemble.specs.Settings.{before_section, operator_said};
+ghost use Rattle.t1_disassemble.specs.PrivateText.{says_settings};
+ghost use Rattle.t1_text.specs.Tokens.{places_from};
 ghost use Rattle.t1_disassemble.specs.Settings.{opens_section, lead_said, reading_operator};
 ghost use Rattle.t1_disassemble.specs.Settings.{leading_bytes};
 
 use crate::fault::FontCode;
-use t1_parts::{count_between, ends_in, holds, operator_on};
-use t1_text::{after_token, decimal_up_to, first_line, same, trimmed};
+use t1_parts::{count_between, ends_in, holds, operator_on, uncommented};
+use t1_text::{after_token, decimal_up_to, first_line, next_place, same, trimmed};
 
 /// Whether a line is the Subrs line.
 pub(crate) fn is_subrs_line(line: &[u8]) -> bool
@@ -63,7 +66,7 @@ fn ends_in_key(line: &[u8]) -> bool
 }
 
 /// Whether a line ends in a section's name, or in that and digits.
-pub(crate) fn begins_section(line: &[u8]) -> bool
+fn begins_section(line: &[u8]) -> bool
     ensures { result ≡ begins_section line.now }
 {
     ends_in_key(line) || ends_in_key(undigited(trimmed(line)))
@@ -74,7 +77,61 @@ fn opens_section(line: &[u8]) -> bool
     requires { length line.now < 2 ^ 63 }
     ensures { result ≡ opens_section line.now }
 {
-    is_section(line) || begins_section(line)
+    is_section(line) || begins_section(uncommented(line))
+}
+
+/// Whether a token is a section's name.
+fn is_section_name(token: &[u8]) -> bool
+    ensures { result ≡ is_section_name token.now }
+{
+    same(token, b"/Subrs") || same(token, b"/CharStrings")
+}
+
+/// Where the first section's name stands on a line, or how many bytes the line has.
+fn name_place(line: &[u8]) -> usize
+    requires { length line.now < 2 ^ 63 }
+    ensures value { result ≡ name_place (length line.now) (places_from 0 line.now) }
+    ensures within { result ≤ length line.now }
+{
+    let mut place = 0;
+    let mut rest = line;
+    while let Some((at, token, after)) = next_place(place, rest) {
+        if is_section_name(token) {
+            return at;
+        }
+        place = at + token.len();
+        rest = after;
+    }
+    line.len()
+}
+
+/// What stands on a line before the first section's name.
+pub(crate) fn before_section(line: &[u8]) -> &[u8]
+    requires { length line.now < 2 ^ 63 }
+    ensures value { result.now ≡ before_section line.now }
+    ensures within { length result.now ≤ length line.now }
+{
+    line.split_at(name_place(line)).0
+}
+
+/// Whether a line says something of the reading operator or of lenIV.
+pub(crate) fn says_settings(line: &[u8]) -> bool
+    ensures { result ≡ says_settings line.now }
+{
+    holds(b"string currentfile", line) || after_token(b"/lenIV", line).is_some()
+}
+
+/// The operator that a line defines, else RD.
+fn operator_said(line: &[u8]) -> &[u8]
+    ensures { result.now ≡ operator_said line.now }
+{
+    if !holds(b"string currentfile", line) {
+        return b"RD";
+    }
+    match operator_on(line) {
+        Some(name) => name,
+        None => b"RD",
+    }
 }
 
 /// The operator that reads charstrings, as the lines before the first section define it.
@@ -85,13 +142,10 @@ pub(crate) fn reading_operator(private: &[u8]) -> &[u8]
     while !rest.is_empty() {
         let (line, after) = first_line(rest);
         if opens_section(line) {
-            return b"RD";
+            return operator_said(before_section(line));
         }
         if holds(b"string currentfile", line) {
-            return match operator_on(line) {
-                Some(name) => name,
-                None => b"RD",
-            };
+            return operator_said(line);
         }
         rest = after;
     }
@@ -123,7 +177,10 @@ pub(crate) fn leading_bytes(private: &[u8]) -> Result<u8, FontCode>
     while !rest.is_empty() {
         let (line, after) = first_line(rest);
         if opens_section(line) {
-            return Ok(4);
+            return match after_token(b"/lenIV", before_section(line)) {
+                Some(said) => lead_said(said),
+                None => Ok(4),
+            };
         }
         if let Some(said) = after_token(b"/lenIV", line) {
             return lead_said(said);

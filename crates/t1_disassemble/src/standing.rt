@@ -1,7 +1,7 @@
 //! What a reader of the source makes of the private lines that are written: where it stands among
 //! the sections, and which entry of the font it would lose, or read where the font has none.
-ghost use Rattle.std.specs.Prelude.{◌≡◌, ◌<◌, ◌^◌, ◌++◌, [], codes, length, option_map, OnOk, Ok};
-ghost use Rattle.std.specs.Prelude.{Err, MatchResult, List, ℕ, unwrap_or};
+ghost use Rattle.std.specs.Prelude.{◌≡◌, ◌<◌, ◌^◌, ◌++◌, [], codes, length, option_map, OnOk, Ok, Err};
+ghost use Rattle.std.specs.Prelude.{MatchResult, List, ℕ, unwrap_or};
 ghost use Rattle.t1_frac.specs.Ascii.{slash};
 ghost use Rattle.t1_text.specs.Lines.{begins_with};
 ghost use Rattle.t1_text.specs.Tokens.{tokens};
@@ -12,6 +12,7 @@ ghost use Rattle.t1_disassemble.specs.Standing.{fresh, losing, losing_maybe, tak
 ghost use Rattle.t1_disassemble.specs.Standing.{read_outside, outside_judged, wanted, entered};
 ghost use Rattle.t1_disassemble.specs.Standing.{among_subrs, among_glyphs, plain_judged};
 ghost use Rattle.t1_disassemble.specs.Standing.{line_judged, entry_stands, entry_judged};
+ghost use Rattle.t1_disassemble.specs.Standing.{front_judged, text_judged};
 ghost use Rattle.t1_disassemble.specs.Standing.{may_stand, lost_place, all_kept};
 ghost use Rattle.t1_disassemble.specs.Standing.{is_no_reader, is_like_glyph, is_like_subr};
 ghost use Rattle.t1_disassemble.specs.Standing.{is_like_entry, first_said, other_operator};
@@ -21,7 +22,7 @@ ghost use Rattle.t1_disassemble.specs.Stood.{prefixed, said_of, standing_of};
 use crate::fault::{FontCode, FontFault, FontPlace};
 use crate::layouts::is_closefile;
 use crate::opening::Opening;
-use crate::private::Settings;
+use crate::private::{Settings, cut_len};
 use std::alloc::{AllocError, Global};
 use t1_frac::Bytes;
 use t1_parts::{count_between, holds, opens_glyph, opens_subr, operator_on};
@@ -353,8 +354,8 @@ impl Standing {
         self.leads = first_said(self.leads, other_lead(settings.lead, line));
     }
 
-    /// A section line is come to, of which no reader of the source hears what it says of the
-    /// reading operator or lenIV.
+    /// A section line is come to, of which no reader of the source hears what it says of the reading
+    /// operator or lenIV.
     fn leave_unheard(&mut self, line: &[u8])
         ensures { standing_of self.new ≡ unheard (standing_of self.old) line.now }
     {
@@ -426,6 +427,45 @@ impl Standing {
         self.judge_plain(settings, line)
     }
 
+    /// What is cut off before a section's name is judged, which doesn't close the encrypted part.
+    fn judge_cut(
+        &mut self,
+        settings: &Settings,
+        waits: bool,
+        front: &[u8],
+    ) -> Result<(), AllocError>
+        requires { length front.now < 2 ^ 63 }
+        ensures { OnOk result (standing_of self.new
+            ≡ front_judged settings.now.operator.now settings.now.lead waits
+            (standing_of self.old) front.now) }
+    {
+        self.judge_line(settings, waits, front)?;
+        if is_closefile(front) {
+            return self.lose(false, b"");
+        }
+        Ok(())
+    }
+
+    /// A line is judged, with what stands before a section's name cut off where that has to be.
+    pub(crate) fn judge_text(
+        &mut self,
+        settings: &Settings,
+        waits: bool,
+        line: &[u8],
+    ) -> Result<(), AllocError>
+        requires { length line.now < 2 ^ 63 }
+        ensures { OnOk result (standing_of self.new
+            ≡ text_judged settings.now.operator.now settings.now.lead waits
+            (standing_of self.old) line.now) }
+    {
+        let Some(len) = cut_len(waits, line) else {
+            return self.judge_line(settings, waits, line);
+        };
+        let (front, section) = line.split_at(len);
+        self.judge_cut(settings, waits, front)?;
+        self.judge_line(settings, false, section)
+    }
+
     /// An entry is come to.
     fn stand(&mut self, opening: &Opening) -> Result<(), AllocError>
         ensures { OnOk result (standing_of self.new
@@ -453,7 +493,7 @@ impl Standing {
             ≡ entry_judged settings.now.operator.now settings.now.lead waits
             (standing_of self.old) front.now (opening_of opening.now).name) }
     {
-        self.judge_line(settings, waits, front)?;
+        self.judge_text(settings, waits, front)?;
         if is_closefile(front) {
             self.lose(opening.is_subr, opening.name)?;
         }

@@ -6,7 +6,7 @@ use Rattle.t1_disassemble.specs.Opening.{first_opening}
 use Rattle.t1_disassemble.specs.PieceLeft.{piece_of}
 use Rattle.t1_disassemble.specs.PiecesOnto.{line_onto, entry_onto, entry_left}
 use Rattle.t1_disassemble.specs.PrivateText.{source_line}
-use Rattle.t1_disassemble.specs.Standing.{line_judged, entry_judged}
+use Rattle.t1_disassemble.specs.Standing.{text_judged, entry_judged}
 use Rattle.t1_disassemble.specs.Stood.{standing_of}
 use Rattle.t1_disassemble.proofs.StandingLaws.{line_step, entry_step}
 use Rattle.t1_disassemble.proofs.private.push_piece.Goals as goal
@@ -18,7 +18,7 @@ returns-in_default-clause-standing g c =
     let bytes = c.args.bytes.now in
     let some : 0 < length bytes = search (rules, arith) in
     let none : first_opening operator (places_from 0 (front_line bytes)) ≡ None = search rules in
-    let e : standing_of c.push_whole_line.new.standing ≡ line_judged operator lead c.args.waits (standing_of c.args.standing.now) (source_line operator bytes) = search rules in
+    let e : standing_of c.push_whole_line.new.standing ≡ text_judged operator lead c.args.waits (standing_of c.args.standing.now) (source_line operator bytes) = search rules in
     let text = g.T.Lines.text c.push_whole_line.new.text in
     let before = g.T.Lines.text c.args.text.now in
     let is : piece_of text c.in_ok-piece.piece ≡ line_onto operator before c.args.waits bytes = search rules in
