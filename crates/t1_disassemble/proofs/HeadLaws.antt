@@ -14,6 +14,7 @@ use Rattle.t1_disassemble.specs.CutWords.{slashless}
 use Rattle.t1_disassemble.specs.Front.{front_line, past_line}
 use Rattle.t1_disassemble.specs.Heads.{Head, past_gap_in, past_gap, token_and_rest, next_over, past_word, count_and_rest, behind_name, section_word, head_with, head_at, or_later, head_among, head_over, opens_entry, past_head}
 use Rattle.t1_disassemble.specs.Laws.{names_section, fits}
+use Rattle.t1_disassemble.specs.PrivateText.{cut_len}
 use Rattle.t1_disassemble.specs.Settings.{heads_section, is_section_name}
 use Rattle.t1_disassemble.proofs.CutPieces.{IsLeft, left_short, left_twice}
 use Rattle.t1_disassemble.proofs.FrontLaws.{line_front}
@@ -27,6 +28,9 @@ no_section l h =
     let ts = places_free 0 l h in
     ap (λ (o : Option (ℕ × List ℕ)). is_some (option_map (section_at l) o) || is_some (glyphs_line l)) (count_none (codes "Subrs") (codes "array") (places_from 0 l) ts)
     ∙ ap (λ (o : Option (ℕ × List ℕ)). is_some (option_map (section_at l) o)) (count_none (codes "CharStrings") (codes "dict") (places_from 0 l) ts)
+
+pub uncut : (waits : Bool) (l : List ℕ) → list_all slashless l ≡ true → cut_len waits l ≡ None
+uncut waits l h = rw (no_section l h) refl
 
 names_none : (bytes : List ℕ) (ts : List (ℕ × List ℕ)) → list_all free ts ≡ true → head_among bytes ts ≡ None
 names_none bytes [] h = refl

@@ -47,41 +47,53 @@ split_free (c ∷ rest) h =
 lines_free : (t : List ℕ) → list_all slashless t ≡ true → list_all (list_all slashless) (lines t) ≡ true
 lines_free t h = split_free (unified t) (unified_free t h)
 
--- ---- the tokens of such a line
+-- ---- the tokens of a line of which each byte passes a test
 
--- a word that doesn't begin with a slash
-abbrev pub free_word : List ℕ → Bool
-free_word [] = true
-free_word (c ∷ w) = slashless c
+-- a word whose first byte passes it
+abbrev pub begins_by : (ℕ → Bool) → List ℕ → Bool
+begins_by test [] = true
+begins_by test (c ∷ w) = test c
 
-abbrev pub free : ℕ × List ℕ → Bool
-free t = free_word t.1
+abbrev pub token_by : (ℕ → Bool) → ℕ × List ℕ → Bool
+token_by test t = begins_by test t.1
 
-joins_free : (i c : ℕ) (rest : List ℕ) (ts : List (ℕ × List ℕ)) → slashless c ≡ true → list_all free ts ≡ true → list_all free (joins_at i c rest ts) ≡ true
-joins_free i c rest ts one h = elim (cases_Bool (token_goes_on rest)) [
+joins_by : (test : ℕ → Bool) (i c : ℕ) (rest : List ℕ) (ts : List (ℕ × List ℕ)) → test c ≡ true → list_all (token_by test) ts ≡ true → list_all (token_by test) (joins_at i c rest ts) ≡ true
+joins_by test i c rest ts one h = elim (cases_Bool (token_goes_on rest)) [
   | inl t ↦ rw t (first ts h)
-  | inr f ↦ rw f (and_from (slashless c) (list_all free ts) one h)
+  | inr f ↦ rw f (and_from (test c) (list_all (token_by test) ts) one h)
 ]
   where
-    first : (ts : List (ℕ × List ℕ)) → list_all free ts ≡ true → list_all free (onto_place i c ts) ≡ true
-    first [] k = and_from (slashless c) true one refl
-    first (t ∷ more) k = and_from (slashless c) (list_all free more) one (and_parts (free t) (list_all free more) k).1
+    first : (ts : List (ℕ × List ℕ)) → list_all (token_by test) ts ≡ true → list_all (token_by test) (onto_place i c ts) ≡ true
+    first [] k = and_from (test c) true one refl
+    first (t ∷ more) k = and_from (test c) (list_all (token_by test) more) one (and_parts (token_by test t) (list_all (token_by test) more) k).1
 
-pub places_free : (i : ℕ) (l : List ℕ) → list_all slashless l ≡ true → list_all free (places_from i l) ≡ true
-places_free i [] h = refl
-places_free i (c ∷ rest) h =
-    let parts = and_parts (slashless c) (list_all slashless rest) h in
-    let more = places_free (i + 1) rest parts.1 in
+pub places_by : (test : ℕ → Bool) (i : ℕ) (l : List ℕ) → list_all test l ≡ true → list_all (token_by test) (places_from i l) ≡ true
+places_by test i [] h = refl
+places_by test i (c ∷ rest) h =
+    let parts = and_parts (test c) (list_all test rest) h in
+    let more = places_by test (i + 1) rest parts.1 in
     elim (cases_Bool (is_blank c)) [
       | inl t ↦ rw t more
       | inr f ↦ rw f (elim (cases_Bool (c == 37)) [
         | inl t ↦ rw t refl
         | inr g ↦ rw g (elim (cases_Bool (is_bracket c)) [
-          | inl t ↦ rw t (and_from (slashless c) (list_all free (places_from (i + 1) rest)) parts.0 more)
-          | inr k ↦ rw k (joins_free i c rest (places_from (i + 1) rest) parts.0 more)
+          | inl t ↦ rw t (and_from (test c) (list_all (token_by test) (places_from (i + 1) rest)) parts.0 more)
+          | inr k ↦ rw k (joins_by test i c rest (places_from (i + 1) rest) parts.0 more)
         ])
       ])
     ]
+
+-- ---- the tokens of a line without a slash
+
+-- a word that doesn't begin with a slash
+abbrev pub free_word : List ℕ → Bool
+free_word w = begins_by slashless w
+
+abbrev pub free : ℕ × List ℕ → Bool
+free t = token_by slashless t
+
+pub places_free : (i : ℕ) (l : List ℕ) → list_all slashless l ≡ true → list_all free (places_from i l) ≡ true
+places_free i l h = places_by slashless i l h
 
 -- ---- no section begins there
 

@@ -1,5 +1,5 @@
 -- What contracts see of where a source's lines stand.
-use Rattle.std.specs.Prelude.{ℕ, Bool, if◌then◌else◌, None, Some, List, ◌++◌, codes}
+use Rattle.std.specs.Prelude.{ℕ, Bool, not, ◌&&◌, ◌==◌, if◌then◌else◌, None, Some, List, ◌++◌, codes}
 use Rattle.t1_disassemble.specs.declared.standing.Said as said
 use Rattle.t1_disassemble.specs.declared.standing.Standing as declared
 use Rattle.t1_disassemble.specs.declared.private.EntryRead.{EntryRead}
@@ -20,3 +20,7 @@ standing_of s = record { part = s.part; lacks_subrs = s.lacks_subrs; lacks_glyph
 -- word: what is made of the pieces after one, where it isn't the last
 abbrev pub judged_after : List ℕ → ℕ → EntryRead → Standing → Standing
 judged_after operator lead piece s = if piece.is_last then s else judged operator lead piece.rest.now piece.waits s
+
+-- word: a byte with which neither a name begins, nor `dup`, nor a word that begins with this one
+abbrev pub is_other_byte : ℕ → ℕ → Bool
+is_other_byte first c = not (c == 47) && not (c == 100) && not (c == first)

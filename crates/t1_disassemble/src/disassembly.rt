@@ -169,7 +169,8 @@ pub(crate) fn push_checked<'a, T: Lines>(
         plain.now)) }
     ensures within { IfOk result (λ rest. length rest.now ≤ length plain.now) }
     ensures standing { OnOk result (standing_of standing.new
-        ≡ judged settings.now.operator.now settings.now.lead plain.now false (standing_of standing.old)) }
+        ≡ judged settings.now.operator.now settings.now.lead plain.now false
+        (standing_of standing.old)) }
 {
     match push_private(alloc, text, standing, settings, plain) {
         Ok(rest) => Ok(rest),

@@ -1,7 +1,7 @@
 //! Fonts of kinds that aren't read.
 ghost use Rattle.std.specs.Prelude.{◌≡◌, ◌<◌, ◌≤◌, ◌||◌, Ok, Err, if◌then◌else◌, List, ℕ};
-ghost use Rattle.std.specs.Prelude.{[], ◌∷◌, ◌^◌, true, false, None, filter, length, IfSome, MatchOption};
-ghost use Rattle.std.specs.Prelude.{MatchResult};
+ghost use Rattle.std.specs.Prelude.{[], ◌∷◌, ◌^◌, true, false, None, filter, length, IfSome};
+ghost use Rattle.std.specs.Prelude.{MatchOption, MatchResult};
 ghost use Rattle.std.specs.List.{list_all, prefix_len};
 ghost use Rattle.t1_text.specs.Lines.{lines};
 ghost use Rattle.t1_parts.specs.Sections.{subrs_line, glyphs_line};

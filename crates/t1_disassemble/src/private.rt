@@ -361,8 +361,10 @@ fn push_piece<'a, T: Lines>(
     ensures end { IfOk result (λ piece. piece.end ≡ line_len piece.rest.now) }
     ensures shorter { IfOk result (λ piece. length piece.rest.now < length bytes.now) }
     ensures standing { IfOk result
-        (λ piece. judged_after settings.now.operator.now settings.now.lead piece (standing_of standing.new)
-        ≡ judged settings.now.operator.now settings.now.lead bytes.now waits (standing_of standing.old)) }
+        (λ piece. judged_after settings.now.operator.now settings.now.lead piece
+        (standing_of standing.new)
+        ≡ judged settings.now.operator.now settings.now.lead bytes.now waits
+        (standing_of standing.old)) }
 {
     if bytes.is_empty() {
         return Err(FontRefusal::from(FontCode::D4));
@@ -401,7 +403,8 @@ pub(crate) fn push_private<'a, T: Lines>(
         bytes.now) }
     ensures within { IfOk result (λ rest. length rest.now ≤ length bytes.now) }
     ensures standing { OnOk result (standing_of standing.new
-        ≡ judged settings.now.operator.now settings.now.lead bytes.now false (standing_of standing.old)) }
+        ≡ judged settings.now.operator.now settings.now.lead bytes.now false
+        (standing_of standing.old)) }
 {
     let known = Known::new(alloc)?;
     text.make_room(bytes.len())?;

@@ -1,7 +1,7 @@
 //! What a reader of the source makes of the private lines that are written: where it stands among
 //! the sections, and which entry of the font it would lose, or read where the font has none.
-ghost use Rattle.std.specs.Prelude.{◌≡◌, ◌<◌, ◌^◌, ◌++◌, [], codes, length, option_map, OnOk, Ok, Err};
-ghost use Rattle.std.specs.Prelude.{MatchResult, List, ℕ, unwrap_or};
+ghost use Rattle.std.specs.Prelude.{◌≡◌, ◌<◌, ◌^◌, ◌++◌, [], codes, length, option_map, OnOk, Ok};
+ghost use Rattle.std.specs.Prelude.{Err, MatchResult, List, ℕ, unwrap_or};
 ghost use Rattle.t1_frac.specs.Ascii.{slash};
 ghost use Rattle.t1_text.specs.Lines.{begins_with};
 ghost use Rattle.t1_text.specs.Tokens.{tokens};
@@ -17,7 +17,10 @@ ghost use Rattle.t1_disassemble.specs.Standing.{may_stand, lost_place, all_kept}
 ghost use Rattle.t1_disassemble.specs.Standing.{is_no_reader, is_like_glyph, is_like_subr};
 ghost use Rattle.t1_disassemble.specs.Standing.{is_like_entry, first_said, other_operator};
 ghost use Rattle.t1_disassemble.specs.Standing.{other_lead, said_judged, unheard};
-ghost use Rattle.t1_disassemble.specs.Stood.{prefixed, said_of, standing_of};
+ghost use Rattle.t1_disassemble.specs.declared.standing.Part.{Part};
+ghost use Rattle.t1_disassemble.specs.Stood.{prefixed, said_of, standing_of, is_other_byte};
+ghost use Rattle.std.specs.List.{list_all};
+ghost use Rattle.std.specs.Prelude.{true, None};
 
 use crate::fault::{FontCode, FontFault, FontPlace};
 use crate::layouts::is_closefile;
@@ -156,6 +159,33 @@ fn read_outside<'a>(operator: &[u8], part: Part, line: &'a [u8]) -> Option<(bool
         rest = after;
     }
     None
+}
+
+/// Whether neither a name begins with a byte, nor `dup`, nor a word that begins with the first.
+fn is_other_byte(first: u8, byte: u8) -> bool
+    ensures { result ≡ is_other_byte first byte }
+{
+    byte != b'/' && byte != b'd' && byte != first
+}
+
+/// Whether all bytes of a line are such.
+fn has_other_bytes(first: u8, line: &[u8]) -> bool
+    ensures { result ≡ list_all (is_other_byte first) line.now }
+{
+    line.iter().all(|byte| is_other_byte(first, *byte))
+}
+
+/// Whether a line has no byte with which a name, `dup` or an operator begins, as most closing
+/// texts.
+#[tactic(auto, using(crate::proofs::StandingLaws::line_quiet))]
+fn is_quiet(operator: &[u8], line: &[u8]) -> bool
+    ensures { (part : Part) (name : List ℕ) → result ≡ true
+        → read_outside operator.now part name (tokens line.now) ≡ None }
+{
+    let Some((first, _more)) = operator.split_first() else {
+        return false;
+    };
+    has_other_bytes(*first, line)
 }
 
 /// Whether the count is over 0 where a line is the Subrs line.
@@ -310,6 +340,9 @@ impl Standing {
         ensures { OnOk result (standing_of self.new
             ≡ outside_judged operator.now (standing_of self.old) line.now) }
     {
+        if is_quiet(operator, line) {
+            return Ok(());
+        }
         match read_outside(operator, self.part, line) {
             Some((is_subr, name)) => self.lose(is_subr, name),
             None => Ok(()),
@@ -354,8 +387,8 @@ impl Standing {
         self.leads = first_said(self.leads, other_lead(settings.lead, line));
     }
 
-    /// A section line is come to, of which no reader of the source hears what it says of the reading
-    /// operator or lenIV.
+    /// A section line is come to, of which no reader of the source hears what it says of the
+    /// reading operator or lenIV.
     fn leave_unheard(&mut self, line: &[u8])
         ensures { standing_of self.new ≡ unheard (standing_of self.old) line.now }
     {
@@ -481,6 +514,7 @@ impl Standing {
     }
 
     /// An entry is judged behind what stands on its line before it.
+    #[tactic(auto, using(crate::proofs::StandingLaws::stands_first))]
     pub(crate) fn judge_entry(
         &mut self,
         settings: &Settings,
@@ -493,6 +527,9 @@ impl Standing {
             ≡ entry_judged settings.now.operator.now settings.now.lead waits
             (standing_of self.old) front.now (opening_of opening.now).name) }
     {
+        if front.is_empty() {
+            return self.stand(opening);
+        }
         self.judge_text(settings, waits, front)?;
         if is_closefile(front) {
             self.lose(opening.is_subr, opening.name)?;
