@@ -46,11 +46,15 @@ def broken(code, shown, small):
     clear += CLEAR_END
     if code == "D4":
         return raw(clear, private(SOUND, close=line))[: -len(TAIL)]
-    if code in ("D5", "D6"):
+    if code in ("D5", "D6", "D14"):
         return raw(clear, private(line))
     if code in ("D7", "D8"):
         return raw(clear, private(entry(b"/space", bytes.fromhex(shown.decode()))))
-    if code == "D11":
+    if code in ("D11", "D17"):
         return raw(clear, private(SOUND + line))
+    if code == "D15":
+        return raw(clear, private(SOUND, before=line))
+    if code == "D16":
+        return raw(clear, line + b"end\n" + CLOSEFILE)
     assert code in ("D9", "D10"), code
     return raw(clear, private(SOUND, before=line))

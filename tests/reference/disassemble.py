@@ -10,14 +10,12 @@ import sys
 from dataclasses import dataclass, field
 
 from charstrings import CHARSTRING_KEY, COMMANDS, EEXEC_KEY
+from lost_entries import BLANKS, is_closefile, lost_entry, section_lines
 from source import DECIMAL, is_name, lines, token_places, tokens
 
 NAMES = {code: name for name, (code, _) in COMMANDS.items()}
-BLANKS = b"\0\t\n\x0c\r "
 DIGITS = frozenset(b"0123456789abcdefABCDEF")
 LINE_END = re.compile(rb"\r\n|\r|\n")
-CLOSEFILE = b"mark currentfile closefile"
-LONGEST_COUNT = 9
 
 
 class FontFault(Exception):
@@ -151,16 +149,8 @@ def after_digits(coded, count):
 
 # The private text
 
-def is_count(token):
-    return len(token) <= LONGEST_COUNT and bool(DECIMAL.fullmatch(token))
-
-
-def section_kind(line):
-    """`Subrs` or `CharStrings` for a section line, and both where it is both."""
-    found = tokens(line)
-    triples = list(zip(found, found[1:], found[2:]))
-    kinds = (b"/Subrs", b"array"), (b"/CharStrings", b"dict")
-    return {key for key, word in kinds if any(a == key and is_count(n) and b == word for a, n, b in triples)}
+def is_number(token):
+    return bool(DECIMAL.fullmatch(token))
 
 
 def ends_in_key(line):
@@ -176,7 +166,7 @@ def begins_section(line):
 def lines_before_sections(plain):
     """The lines before the first on which a section begins."""
     for line in lines(plain):
-        if section_kind(line) or begins_section(line):
+        if section_lines(line) or begins_section(line):
             return
         yield line
 
@@ -223,9 +213,9 @@ def first_opening(operator, line):
     places = token_places(line)
     words = [line[start:end] for start, end in places]
     for at, word in enumerate(words):
-        if word[:1] == b"/" and words[at + 2 : at + 3] == [operator] and is_count(words[at + 1]):
+        if word[:1] == b"/" and words[at + 2 : at + 3] == [operator] and is_number(words[at + 1]):
             return Opening(places[at][0], word, int(words[at + 1]), places[at + 2][1])
-        if word == b"dup" and words[at + 3 : at + 4] == [operator] and DECIMAL.fullmatch(words[at + 1]) and is_count(words[at + 2]):
+        if word == b"dup" and words[at + 3 : at + 4] == [operator] and all(map(is_number, words[at + 1 : at + 3])):
             return Opening(places[at][0], b"dup " + words[at + 1], int(words[at + 2]), places[at + 3][1])
     return None
 
@@ -274,12 +264,8 @@ def charstring_lines(lead, opening, code):
         raise FontFault(fault.told, opening.place()) from None
 
 
-def is_closefile(line):
-    return line.strip(BLANKS).endswith(CLOSEFILE)
-
-
 def is_border(line):
-    return bool(section_kind(line)) or is_closefile(line)
+    return bool(section_lines(line)) or is_closefile(line)
 
 
 def as_one(line, following):
@@ -298,45 +284,84 @@ def line_at(text, at):
     return (text[at : stop.start()], stop.end()) if stop else (text[at:], len(text))
 
 
-def closing_line(text):
-    text = text.strip(BLANKS)
-    return b"\t} " + text + b"\n" if text else b"\t}\n"
+@dataclass(frozen=True)
+class Piece:
+    """What becomes a line of the source, a closing text, or an entry."""
+
+    kind: str  # line, closing, entry
+    text: bytes
+    # the entry, and of what stands before an entry on its line the one behind it
+    opening: Opening | None = None
+    is_last: bool = False
+
+    def printed(self):
+        text = self.text.strip(BLANKS)
+        closing = b"\t} " + text + b"\n" if text else b"\t}\n"
+        return {"line": self.text + b"\n", "closing": closing, "entry": self.text}[self.kind]
 
 
-def private_text(operator, lead, plain):
-    """The lines of the private text, and what stands after it."""
-    made, at, waits = [], 0, False
-    while at < len(plain):
-        line, after = line_at(plain, at)
-        opening = first_opening(operator, line)
-        if opening is None:
-            following, later = line_at(plain, after)
-            both = None if first_opening(operator, following) else as_one(line, following)
-            if both is not None:
-                line, after = both, later
-            made.append(closing_line(line) if waits else line + b"\n")
-            at, waits = after, False
-            if is_closefile(line):
-                return b"".join(made), plain[at:]
-            continue
-        front = line[: opening.at]
-        if waits:
-            made.append(closing_line(front))
-        elif front.strip(BLANKS):
-            made.append(front + b"\n")
-        start = at + opening.end + 1
-        if start + opening.count > len(plain) and opening.count:
+class PrivateText:
+    """The private text, piece by piece."""
+
+    def __init__(self, operator, lead, plain):
+        self.operator, self.lead, self.plain = operator, lead, plain
+        self.at, self.waits = 0, False
+
+    def pieces(self):
+        while self.at < len(self.plain):
+            line, after = line_at(self.plain, self.at)
+            opening = first_opening(self.operator, line)
+            if opening:
+                front = line[: opening.at]
+                if self.waits or front.strip(BLANKS):
+                    yield self.before(front, opening)
+                yield self.entry(opening)
+            else:
+                yield self.line(line, after)
+
+    def before(self, text, opening):
+        """What stands before an entry."""
+        kind, self.waits = "closing" if self.waits else "line", False
+        return Piece(kind, text, opening)
+
+    def entry(self, opening):
+        start = self.at + opening.end + 1
+        end = start + opening.count
+        if end > len(self.plain) and opening.count:
             raise FontFault(b"D5", opening.place())
-        made.append(opening.name + b" {\n")
-        made.append(charstring_lines(lead, opening, plain[start : start + opening.count]))
-        at, waits = start + opening.count, True
+        code = charstring_lines(self.lead, opening, self.plain[start:end])
+        self.at, self.waits = end, True
+        return Piece("entry", opening.name + b" {\n" + code, opening)
+
+    def line(self, line, after):
+        following, later = line_at(self.plain, after)
+        both = None if first_opening(self.operator, following) else as_one(line, following)
+        if both is not None:
+            line, after = both, later
+        self.at, kind, self.waits = after, "closing" if self.waits else "line", False
+        return Piece(kind, line, is_last=is_closefile(line))
+
+
+def private_pieces(operator, lead, plain):
+    """The pieces of the private text through the line that closes it, and what stands after it."""
+    reader, found = PrivateText(operator, lead, plain), []
+    for piece in reader.pieces():
+        found.append(piece)
+        if piece.is_last:
+            return found, plain[reader.at :]
     raise FontFault(b"D4")
 
 
-def judge_sections(text):
-    found = [kind for line in lines(text) if line[:1] != b"\t" for kind in section_kind(line)]
+def judge_sections(pieces):
+    found = [kind for piece in pieces if piece.kind == "line" and piece.text[:1] != b"\t" for kind in section_lines(piece.text)]
     if len(found) != len(set(found)):
         raise FontFault(b"D11")
+
+
+def judge_entries(operator, lead, pieces):
+    fault = lost_entry(operator, lead, pieces)
+    if fault:
+        raise FontFault(*fault)
 
 
 def lines_of(text):
@@ -364,17 +389,19 @@ def disassembled(file):
     found, clear, coded = encrypted_part(file)
     plain = private_bytes(coded)
     lead = leading_bytes(plain)
+    operator = reading_operator(plain)
     try:
-        private, rest = private_text(reading_operator(plain), lead, plain)
+        pieces, rest = private_pieces(operator, lead, plain)
     except FontFault as fault:
         end = digits_end(coded)
         if fault.told[:2] in (b"D4", b"D5") and is_hexadecimal(coded) and end < len(coded):
             raise FontFault(b"D3", found.place(len(found.clear) + len(found.coded) - len(coded) + end)) from None
         raise
-    judge_sections(private)
+    judge_sections(pieces)
+    judge_entries(operator, lead, pieces)
     used = 4 + len(plain) - len(rest)
     tail = found.tail if found.coded else after_digits(coded, 2 * used) if is_hexadecimal(coded) else coded[used:]
-    return lines_of(clear) + private + tail_lines(tail)
+    return lines_of(clear) + b"".join(piece.printed() for piece in pieces) + tail_lines(tail)
 
 
 def charstrings(file):
