@@ -5,6 +5,7 @@ usage: disassemble.py FONT > SOURCE
 """
 
 import functools
+import itertools
 import re
 import sys
 from dataclasses import dataclass, field
@@ -16,6 +17,8 @@ from source import DECIMAL, is_name, lines, token_places, tokens
 NAMES = {code: name for name, (code, _) in COMMANDS.items()}
 DIGITS = frozenset(b"0123456789abcdefABCDEF")
 LINE_END = re.compile(rb"\r\n|\r|\n")
+SECTIONS = {b"/Subrs": b"array", b"/CharStrings": b"dict"}
+LONGEST_COUNT = 9
 
 
 class FontFault(Exception):
@@ -153,22 +156,24 @@ def is_number(token):
     return bool(DECIMAL.fullmatch(token))
 
 
-def ends_in_key(line):
-    return line.endswith((b"/Subrs", b"/CharStrings"))
-
-
-def begins_section(line):
-    """Whether a section line may go on with the next line."""
-    line = line.strip(BLANKS)
-    return ends_in_key(line) or ends_in_key(line.rstrip(b"0123456789").strip(BLANKS))
+def section_start(line):
+    """Where the name stands on a line on which a section begins, or None."""
+    places = token_places(line)
+    words = [line[start:end] for start, end in places]
+    for at, word in enumerate(words):
+        count, closing = words[at + 1 : at + 2], words[at + 2 : at + 3]
+        if word in SECTIONS and all(map(is_number, count)) and closing in ([], [SECTIONS[word]]):
+            return places[at][0]
+    return None
 
 
 def lines_before_sections(plain):
-    """The lines before the first on which a section begins."""
+    """The lines before the first on which a section begins, and what stands on that before the section's name."""
     for line in lines(plain):
-        if section_lines(line) or begins_section(line):
+        start = section_start(line)
+        yield line[:start]
+        if start is not None:
             return
-        yield line
 
 
 def reading_operator(plain):
@@ -264,24 +269,51 @@ def charstring_lines(lead, opening, code):
         raise FontFault(fault.told, opening.place()) from None
 
 
-def is_border(line):
-    return bool(section_lines(line)) or is_closefile(line)
-
-
 def as_one(line, following):
-    """Two lines as one, where only both together are a section line or close the encrypted part."""
+    """Two lines as one, where only both together close the encrypted part."""
     bare = line.strip(BLANKS)
-    begins = begins_section(line) or bare.endswith((b"mark", b"mark currentfile"))
-    if is_border(line) or is_border(following) or not begins:
+    if section_lines(line) or section_lines(following) or is_closefile(line) or is_closefile(following):
         return None
     both = bare + b" " + following.strip(BLANKS)
-    return both if is_border(both) else None
+    return both if bare.endswith((b"mark", b"mark currentfile")) and is_closefile(both) else None
 
 
 def line_at(text, at):
     """The line that begins there, and where the next one does."""
     stop = LINE_END.search(text, at)
     return (text[at : stop.start()], stop.end()) if stop else (text[at:], len(text))
+
+
+def tokens_after(text, at):
+    """The tokens of this line's rest and of the lines after it, each with the place after it."""
+    while at < len(text):
+        line, after = line_at(text, at)
+        for start, end in token_places(line):
+            yield line[start:end], at + end
+        at = after
+
+
+@dataclass(frozen=True)
+class Head:
+    """The head of a section: where its name begins on the line, its three tokens, and where the last ends in the private text."""
+
+    at: int
+    name: bytes
+    count: bytes
+    word: bytes
+    end: int
+
+
+def first_head(plain, at, line, limit):
+    """The first head whose name stands before this place of the line that begins there."""
+    for start, end in token_places(line):
+        name = line[start:end]
+        if start >= limit or name not in SECTIONS:
+            continue
+        (count, _), (word, last) = (*itertools.islice(tokens_after(plain, at + end), 2), (b"", 0), (b"", 0))[:2]
+        if is_number(count) and len(count.lstrip(b"0")) <= LONGEST_COUNT and word == SECTIONS[name]:
+            return Head(start, name, count, word, last)
+    return None
 
 
 @dataclass(frozen=True)
@@ -311,7 +343,13 @@ class PrivateText:
         while self.at < len(self.plain):
             line, after = line_at(self.plain, self.at)
             opening = first_opening(self.operator, line)
-            if opening:
+            head = first_head(self.plain, self.at, line, opening.at if opening else len(line))
+            if head and (self.waits or says_something(line[: head.at])):
+                yield self.before(line[: head.at])
+                self.at += head.at
+            elif head and (self.at + len(line) < head.end or len(head.count) > LONGEST_COUNT):
+                yield self.joined_head(line, head)
+            elif opening:
                 front = line[: opening.at]
                 if self.waits or front.strip(BLANKS):
                     yield self.before(front, opening)
@@ -319,10 +357,18 @@ class PrivateText:
             else:
                 yield self.line(line, after)
 
-    def before(self, text, opening):
-        """What stands before an entry."""
+    def before(self, text, opening=None):
+        """What stands before a head or an entry."""
         kind, self.waits = "closing" if self.waits else "line", False
         return Piece(kind, text, opening)
+
+    def joined_head(self, line, head):
+        rest, after = line_at(self.plain, head.end)
+        has_entry = first_opening(self.operator, rest) is not None
+        self.at = head.end if has_entry else after
+        words = [(line[: head.at] + head.name).strip(BLANKS), head.count.lstrip(b"0") or b"0", head.word, rest.strip(BLANKS)]
+        text = b" ".join(words[:3] if has_entry or not words[3] else words)
+        return Piece("line", text, is_last=is_closefile(text))
 
     def entry(self, opening):
         start = self.at + opening.end + 1
@@ -340,6 +386,11 @@ class PrivateText:
             line, after = both, later
         self.at, kind, self.waits = after, "closing" if self.waits else "line", False
         return Piece(kind, line, is_last=is_closefile(line))
+
+
+def says_something(text):
+    """Whether the source's reader finds the operator or lenIV there."""
+    return b"string currentfile" in text or b"/lenIV" in tokens(text)
 
 
 def private_pieces(operator, lead, plain):
