@@ -1,0 +1,5 @@
+pub mod Joins
+pub mod Reached
+pub mod Sums
+pub mod TreeFalls
+pub mod Trees
