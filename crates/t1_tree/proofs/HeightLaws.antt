@@ -1,5 +1,5 @@
 -- Heights of trees that stand in others, and that none is empty.
-use Rattle.std.proofs.Common.{Bool, true, false, if◌then◌else◌, ◌≡◌, ◌<◌, ◌≤◌, ◌+◌, ℕ, zero, suc, List, [], ◌∷◌, ◌++◌, length, take, drop, sym, subst, ◌∙◌, ap, arith}
+use Rattle.std.proofs.Common.{Bool, true, false, if◌then◌else◌, ◌≡◌, ◌<◌, ◌+◌, ℕ, zero, suc, List, [], ◌∷◌, ◌++◌, length, take, drop, sym, subst, ◌∙◌, ap, arith}
 use Rattle.std.specs.List.{slice_index_or, slice_set, insert, remove}
 use Rattle.std.proofs.lemmas.List.{length-append, length-set}
 use Rattle.t1_tree.specs.Trees.{trees_joined, AreBelow, AreFilled, AreNoHigher, AreParts}

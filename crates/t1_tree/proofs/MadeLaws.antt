@@ -1,5 +1,5 @@
 -- Trees made of elements, and of lower trees.
-use Rattle.std.proofs.Common.{◌≡◌, ◌<◌, ◌≤◌, ◌+◌, ◌*◌, ℕ, suc, zero, Result, Ok, Err, IfOk, Vec, Global, List, [], ◌∷◌, ◌++◌, length, refl, sym, subst, ◌∙◌, ap, arith}
+use Rattle.std.proofs.Common.{◌≡◌, ◌<◌, ◌≤◌, ◌+◌, ◌*◌, ℕ, Result, Ok, Err, IfOk, Vec, Global, List, [], ◌∷◌, ◌++◌, length, refl, sym, subst, ◌∙◌, ap, arith}
 use Rattle.std.proofs.lemmas.List.{append_assoc, append-nil, length-append}
 use Rattle.t1_tree.specs.Trees.{trees_joined, AreBelow, AreFilled}
 use Rattle.t1_tree.proofs.HeightLaws.{below_append, filled_append, parts_some}

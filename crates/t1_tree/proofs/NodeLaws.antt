@@ -1,6 +1,6 @@
 -- What is known of a tree by its node.
-use Rattle.std.proofs.Common.{zero, suc, ◌≤◌, ◌+◌, [], ◌∷◌, Option, Some, None, IfSome, take, drop, ◌≡◌, ◌<◌, ℕ, ◌⊎◌, inl, inr, Result, Ok, Err, IfOk, OnErr, OnOk, IsOk, List, length, ◌++◌, Vec, Global, refl, sym, subst, ◌∙◌, ap, arith}
-use Rattle.std.specs.List.{insert, remove, slice_index_or, slice_set}
+use Rattle.std.proofs.Common.{◌≤◌, Option, Some, None, IfSome, take, drop, ◌≡◌, ◌<◌, ℕ, ◌⊎◌, inl, inr, Result, Ok, Err, IfOk, OnErr, OnOk, IsOk, List, length, ◌++◌, Vec, Global, refl, sym, subst, ◌∙◌, ap, arith}
+use Rattle.std.specs.List.{insert, remove, slice_set}
 use Rattle.t1_tree.specs.Sums.{sum_all}
 use Rattle.t1_tree.specs.Trees.{elements, trees_joined, AreBelow, AreFilled, AreHalves, HasHeight, HasParts, IsBoth, IsLike, IsNoHigher}
 use Rattle.t1_tree.specs.declared.node.Node.{Node}

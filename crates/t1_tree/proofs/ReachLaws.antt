@@ -1,5 +1,5 @@
 -- Where the sum of the first elements reaches a property.
-use Rattle.std.proofs.Common.{◌≡◌, ◌<◌, ◌≤◌, ◌+◌, ◌-◌, inl, inr, Bool, true, false, true≢false, ℕ, suc, zero, List, [], ◌∷◌, ◌++◌, length, take, refl, sym, subst, ◌∙◌, ap, arith}
+use Rattle.std.proofs.Common.{◌≡◌, ◌<◌, ◌≤◌, ◌+◌, ◌-◌, inl, inr, Bool, true, false, true≢false, ℕ, suc, zero, List, [], ◌∷◌, length, take, refl, sym, subst, ◌∙◌, ap, arith}
 use Rattle.std.specs.Fn.{Mut, Called, AlwaysReturns}
 use Rattle.std.specs.List.{slice_index_or}
 use Rattle.std.proofs.lemmas.Bool.{cases_lt}

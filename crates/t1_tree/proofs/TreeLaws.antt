@@ -1,11 +1,11 @@
 -- Elements by the trees that they stand in.
-use Rattle.std.proofs.Common.{rules, Bool, true, false, if◌then◌else◌, ◌≡◌, ◌<◌, ◌≤◌, ◌+◌, ℕ, zero, suc, ◌⊎◌, inl, inr, Result, Ok, Err, OnErr, IsOk, List, [], ◌∷◌, ◌++◌, length, take, drop, refl, sym, subst, ◌∙◌, ap, arith}
+use Rattle.std.proofs.Common.{Bool, true, false, if◌then◌else◌, ◌≡◌, ◌<◌, ◌≤◌, ◌+◌, ℕ, zero, suc, List, [], ◌∷◌, ◌++◌, length, take, drop, refl, sym, ◌∙◌, ap, arith}
 use Rattle.std.specs.List.{slice_index_or, slice_set, insert, remove}
-use Rattle.std.proofs.lemmas.List.{append_assoc, append-nil, length-append, get_or-map, get_or_default, length-map, map-set, take-map, take_all, length-set}
+use Rattle.std.proofs.lemmas.List.{append_assoc, append-nil, length-append, get_or-map, get_or_default, length-map, map-set, take-map, take_all}
 use Rattle.std.proofs.Math.Seq.{map-set_same}
 use Rattle.t1_tree.specs.Joins.{joined, IsPlaceIn, IsPlaceUpTo}
 use Rattle.t1_tree.specs.Trees.{lists_of, trees_joined}
-use Rattle.t1_tree.proofs.JoinLaws.{around, bounded, bucket_removed, cut_same, element_at, fewer, none_past, set_at, insert_at, remove_at, one_more}
+use Rattle.t1_tree.proofs.JoinLaws.{around, bounded, bucket_removed, cut_same, element_at, none_past, set_at, insert_at, remove_at}
 
 next_one : (i : ℕ) → suc i + 1 ≡ suc (i + 1)
 next_one i = omega arith

@@ -1,5 +1,5 @@
 -- A property of the sum of the first elements, and where it is reached.
-use Rattle.std.specs.Prelude.{◌≡◌, ◌<◌, ◌≤◌, ◌+◌, ℕ, Bool, true, false, List, length, take}
+use Rattle.std.specs.Prelude.{◌≡◌, ◌<◌, ◌+◌, ℕ, Bool, true, false, List, length, take}
 use Rattle.t1_tree.specs.Sums.{sum_all, sum_from}
 
 module _ {T S : Type 0} where

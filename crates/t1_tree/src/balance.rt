@@ -59,8 +59,8 @@ fn cut<T: Element>(alloc: Global, trees: &mut Vec<Tree<T>>, index: usize) -> Res
     Ok(())
 }
 
-/// Where an element may be put in, in a tree with room for it: a full one is cut in two. Where memory
-/// runs out, the elements are the same.
+/// Where an element may be put in, in a tree with room for it: a full one is cut in two. Where
+/// memory runs out, the elements are the same.
 pub(crate) fn place_with_room<T: Element>(
     alloc: Global,
     trees: &mut Vec<Tree<T>>,
@@ -103,8 +103,8 @@ fn join<T: Element>(alloc: Global, trees: &mut Vec<Tree<T>>, index: usize) -> Re
     Ok(())
 }
 
-/// Joins the tree of an index with one beside it, where there is one. Where memory runs out, none is
-/// changed.
+/// Joins the tree of an index with one beside it, where there is one. Where memory runs out, none
+/// is changed.
 fn fill<T: Element>(alloc: Global, trees: &mut Vec<Tree<T>>, index: usize) -> Result<(), AllocError>
     requires { index < length trees.old.items }
     ensures same { trees_joined trees.new.items ≡ trees_joined trees.old.items }

@@ -6,8 +6,8 @@ use crate::list::SummedList;
 use crate::sums::Element;
 use std::marker::Model;
 
-/// The elements that are left, one after another: some of a leaf, and those behind it. Contracts see
-/// their list.
+/// The elements that are left, one after another: some of a leaf, and those behind it. Contracts
+/// see their list.
 #[derive(Drop)]
 pub struct SummedIter<'t, T: Element> {
     front: &'t [T],

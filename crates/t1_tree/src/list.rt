@@ -1,7 +1,7 @@
 //! A list with sums.
 
-ghost use Rattle.std.specs.Prelude.{◌≡◌, ◌<◌, ◌≤◌, ◌∷◌, ◌++◌, Bool, [], length, take, drop, slice_set};
-ghost use Rattle.std.specs.Prelude.{IfOk, OnOk, OnErr};
+ghost use Rattle.std.specs.Prelude.{◌≡◌, ◌<◌, ◌≤◌, ◌∷◌, ◌++◌, [], length, take, drop, slice_set};
+ghost use Rattle.std.specs.Prelude.{Bool, IfOk, OnOk, OnErr};
 ghost use Rattle.std.specs.Fn.{ComputesKey};
 ghost use Rattle.std.specs.List.{insert, remove, slice_index_or};
 ghost use Rattle.t1_tree.specs.Reached.{IsFirstReached, Stays};
@@ -42,8 +42,8 @@ fn tree_of_one<T: Element>(alloc: Global, element: T) -> Result<Tree<T>, AllocEr
     Tree::of(alloc, 0, Node::Leaf(items))
 }
 
-/// Puts an element into the tree of a root, which is raised where it is full. Where memory runs out,
-/// the elements are the same.
+/// Puts an element into the tree of a root, which is raised where it is full. Where memory runs
+/// out, the elements are the same.
 fn insert_below<T: Element>(
     alloc: Global,
     root: &mut Tree<T>,
@@ -121,8 +121,8 @@ impl<T: Element> SummedList<T> {
         }
     }
 
-    /// How many trees stand one below another. It is no part of what contracts see, and is for tests
-    /// that hold it in step with the length.
+    /// How many trees stand one below another. It is no part of what contracts see, and is for
+    /// tests that hold it in step with the length.
     pub fn height(&self) -> usize {
         match &self.root {
             Some(root) => root.height().saturating_add(1),
@@ -141,8 +141,8 @@ impl<T: Element> SummedList<T> {
         }
     }
 
-    /// How many elements stand before the first one with which the sum of all through it is reached;
-    /// once it is, it stays so.
+    /// How many elements stand before the first one with which the sum of all through it is
+    /// reached; once it is, it stays so.
     pub fn before<F: FnMut(&T::Sum) -> bool>(&self, mut is_reached: F) -> usize
         requires { F.IsAlwaysCallable is_reached }
         ensures within { result ≤ length self.now }

@@ -4,9 +4,9 @@ ghost use Rattle.std.specs.Prelude.{◌≡◌, true, IfOk};
 
 use std::alloc::{AllocError, Global};
 
-/// What is added up, in any grouping. Its laws are over all numbers, so a field of a sum stops at the
-/// highest number, or is a maximum, or the first of two: it doesn't overflow. Who reads a count shows
-/// that it didn't stop.
+/// What is added up, in any grouping. Its laws are over all numbers, so a field of a sum stops at
+/// the highest number, or is a maximum, or the first of two: it doesn't overflow. Who reads a count
+/// shows that it didn't stop.
 pub trait Sum: Copy + Drop {
     ghost none: { Self };
 

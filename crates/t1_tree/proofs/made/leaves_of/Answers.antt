@@ -1,4 +1,4 @@
-use Rattle.std.proofs.Common.{rules, ◌<◌, ◌++◌, ◌∙◌, [], ◌≡◌, length, subst, sym, arith}
+use Rattle.std.proofs.Common.{rules, ◌<◌, ◌++◌, length, subst, sym, arith}
 use Rattle.std.proofs.lemmas.List.{nil_from_length}
 use Rattle.t1_tree.proofs.MadeLaws.{IsLeaves, leaf_made, leaves_ended, taken_first}
 use Rattle.t1_tree.proofs.NodeLaws.{if_ok_then}

@@ -1,4 +1,4 @@
-use Rattle.std.proofs.Common.{rules, ◌<◌, ◌++◌, ◌∙◌, [], ◌≡◌, length, subst, sym, arith}
+use Rattle.std.proofs.Common.{rules, ◌<◌, ◌++◌, length, subst, sym, arith}
 use Rattle.std.proofs.lemmas.List.{nil_from_length}
 use Rattle.t1_tree.proofs.MadeLaws.{IsLevel, level_ended, level_made, taken_first, waits_below}
 use Rattle.t1_tree.proofs.NodeLaws.{if_ok_then}

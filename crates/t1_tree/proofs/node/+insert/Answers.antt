@@ -1,10 +1,10 @@
-use Rattle.std.proofs.Common.{rules, ℕ, ◌≡◌, ◌<◌, ◌≤◌, ◌+◌, ◌∙◌, ap, sym, subst, length, slice_set, arith}
-use Rattle.std.specs.List.{insert, slice_index_or}
+use Rattle.std.proofs.Common.{ℕ, ◌≤◌, ◌∙◌, ap, sym, subst, length, arith}
+use Rattle.std.specs.List.{insert}
 use Rattle.std.proofs.lemmas.Result.{on_ok_weaker, on_err_weaker}
-use Rattle.t1_tree.specs.Joins.{joined, IsPlaceUpTo}
+use Rattle.t1_tree.specs.Joins.{joined}
 use Rattle.t1_tree.specs.Sums.{sum_all}
 use Rattle.t1_tree.specs.TreeFalls.{deep_below, deep_has}
-use Rattle.t1_tree.specs.Trees.{elements, lists_of, trees_joined, HasHeight}
+use Rattle.t1_tree.specs.Trees.{elements, HasHeight}
 use Rattle.t1_tree.proofs.HeightLaws.{filled_at, height_set, lower_at}
 use Rattle.t1_tree.proofs.NodeLaws.{at_err, at_ok, has_parts, is_ok_at, kept, like_either, like_is, like_then, some_inserted}
 use Rattle.t1_tree.proofs.TreeLaws.{inserted_there, length-insert, lists_same, offset_up_to, tree_within, up_index}

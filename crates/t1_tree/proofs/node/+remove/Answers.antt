@@ -1,11 +1,11 @@
-use Rattle.std.proofs.Common.{rules, ℕ, ◌≡◌, ◌<◌, ◌∙◌, ap, sym, subst, length, slice_set, arith}
-use Rattle.std.specs.List.{remove, slice_index_or}
+use Rattle.std.proofs.Common.{ℕ, ◌<◌, ◌∙◌, ap, sym, subst, length, arith}
+use Rattle.std.specs.List.{remove}
 use Rattle.std.proofs.lemmas.Result.{on_ok_weaker, on_err_weaker}
-use Rattle.t1_tree.specs.Joins.{joined, IsPlaceIn}
+use Rattle.t1_tree.specs.Joins.{joined}
 use Rattle.t1_tree.specs.Sums.{sum_all}
 use Rattle.t1_tree.specs.TreeFalls.{deep_below, deep_has}
-use Rattle.t1_tree.specs.Trees.{elements, lists_of, trees_joined, AreBelow, AreParts, HasHeight}
-use Rattle.t1_tree.proofs.HeightLaws.{filled_at, height_removed, height_set, lower_at}
+use Rattle.t1_tree.specs.Trees.{elements, AreBelow, AreParts, HasHeight}
+use Rattle.t1_tree.proofs.HeightLaws.{height_removed, height_set, lower_at}
 use Rattle.t1_tree.proofs.NodeLaws.{at_err, at_ok, is_ok_at, kept, like_either, like_is, like_then, some_removed}
 use Rattle.t1_tree.proofs.TreeLaws.{gone_there, index_within, length-remove, lists_same, many_trees, offset_within, removed_there, same_at}
 use Rattle.t1_tree.proofs.node.+remove.Goals as goal

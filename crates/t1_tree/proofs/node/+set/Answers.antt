@@ -1,11 +1,11 @@
-use Rattle.std.proofs.Common.{rules, ◌≡◌, ◌<◌, ◌∙◌, ap, sym, subst, length, slice_set, arith}
+use Rattle.std.proofs.Common.{◌<◌, ◌∙◌, ap, sym, subst, length, slice_set, arith}
 use Rattle.std.specs.List.{slice_index_or}
 use Rattle.std.proofs.lemmas.List.{length-set}
 use Rattle.std.proofs.lemmas.Result.{on_ok_weaker, on_err_weaker}
 use Rattle.t1_tree.specs.Joins.{joined, IsPlaceIn}
 use Rattle.t1_tree.specs.Sums.{sum_all}
 use Rattle.t1_tree.specs.TreeFalls.{deep_above, deep_below}
-use Rattle.t1_tree.specs.Trees.{elements, lists_of, trees_joined, HasHeight}
+use Rattle.t1_tree.specs.Trees.{elements, lists_of, HasHeight}
 use Rattle.t1_tree.proofs.HeightLaws.{filled_at, height_set}
 use Rattle.t1_tree.proofs.NodeLaws.{at_err, at_ok, if_ok_then, is_ok_at, kept, like_either, like_is, like_then, some_set}
 use Rattle.t1_tree.proofs.SumLaws.{sum_set}

@@ -1,4 +1,3 @@
-use Rattle.std.proofs.Common.{ap, sym}
 use Rattle.t1_tree.proofs.TreeLaws.{next_leaf, none_of}
 use Rattle.t1_tree.proofs.iter.SummedIterIterator.next.Goals as goal
 

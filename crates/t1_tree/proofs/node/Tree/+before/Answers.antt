@@ -1,6 +1,5 @@
 use Rattle.std.proofs.Common.{rules, ◌≡◌, ◌<◌, ◌∙◌, ◌+◌, take, ap, sym, subst, length, arith}
 use Rattle.std.specs.List.{slice_index_or}
-use Rattle.t1_tree.specs.Sums.{sum_all}
 use Rattle.t1_tree.specs.Trees.{elements, trees_joined, AreFilled, HasHeight}
 use Rattle.t1_tree.proofs.HeightLaws.{filled_at, lower_at}
 use Rattle.t1_tree.proofs.ReachLaws.{boundary_at, boundary_end, boundary_in, boundary_past}

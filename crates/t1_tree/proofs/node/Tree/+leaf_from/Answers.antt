@@ -1,5 +1,4 @@
 use Rattle.std.proofs.Common.{rules, take, drop, ◌≡◌, ◌<◌, ◌∙◌, ap, sym, subst, length, arith}
-use Rattle.std.specs.List.{slice_index_or}
 use Rattle.t1_tree.specs.Joins.{IsPlaceIn}
 use Rattle.t1_tree.specs.Trees.{elements, lists_of, trees_joined, HasHeight}
 use Rattle.t1_tree.proofs.HeightLaws.{lower_at}

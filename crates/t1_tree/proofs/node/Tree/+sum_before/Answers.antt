@@ -1,5 +1,4 @@
-use Rattle.std.proofs.Common.{rules, ◌≡◌, ◌<◌, ◌∙◌, take, ap, sym, subst, length, arith}
-use Rattle.std.specs.List.{slice_index_or}
+use Rattle.std.proofs.Common.{rules, ◌≡◌, ◌<◌, ◌∙◌, take, ap, sym, subst, arith}
 use Rattle.t1_tree.specs.Joins.{IsPlaceUpTo}
 use Rattle.t1_tree.specs.Sums.{sum_from}
 use Rattle.t1_tree.specs.Trees.{elements, lists_of, trees_joined, HasHeight}
