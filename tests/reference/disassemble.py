@@ -156,24 +156,24 @@ def is_number(token):
     return bool(DECIMAL.fullmatch(token))
 
 
-def section_start(line):
-    """Where the name stands on a line on which a section begins, or None."""
-    places = token_places(line)
-    words = [line[start:end] for start, end in places]
-    for at, word in enumerate(words):
-        count, closing = words[at + 1 : at + 2], words[at + 2 : at + 3]
-        if word in SECTIONS and all(map(is_number, count)) and closing in ([], [SECTIONS[word]]):
-            return places[at][0]
-    return None
+def begins_section(line):
+    """Whether a line ends in a section's name, or in that and digits."""
+    line = line.strip(BLANKS)
+    return line.endswith(tuple(SECTIONS)) or line.rstrip(b"0123456789").strip(BLANKS).endswith(tuple(SECTIONS))
+
+
+def before_section(line):
+    """What stands on a line before the first section's name."""
+    return line[: next((start for start, end in token_places(line) if line[start:end] in SECTIONS), len(line))]
 
 
 def lines_before_sections(plain):
     """The lines before the first on which a section begins, and what stands on that before the section's name."""
     for line in lines(plain):
-        start = section_start(line)
-        yield line[:start]
-        if start is not None:
+        if section_lines(line) or begins_section(line.split(b"%")[0]):
+            yield before_section(line)
             return
+        yield line
 
 
 def reading_operator(plain):
@@ -295,24 +295,25 @@ def tokens_after(text, at):
 
 @dataclass(frozen=True)
 class Head:
-    """The head of a section: where its name begins on the line, its three tokens, and where the last ends in the private text."""
+    """The head of a section: where its name ends on the line, its other tokens, and where the last ends in the private text."""
 
-    at: int
-    name: bytes
+    name_end: int
     count: bytes
     word: bytes
     end: int
 
 
-def first_head(plain, at, line, limit):
-    """The first head whose name stands before this place of the line that begins there."""
+def head_over(plain, at, line):
+    """The first head on the line that begins there, where that isn't a section line by itself."""
+    if section_lines(line):
+        return None
     for start, end in token_places(line):
-        name = line[start:end]
-        if start >= limit or name not in SECTIONS:
+        word_of_name = SECTIONS.get(line[start:end])
+        if word_of_name is None:
             continue
         (count, _), (word, last) = (*itertools.islice(tokens_after(plain, at + end), 2), (b"", 0), (b"", 0))[:2]
-        if is_number(count) and len(count.lstrip(b"0")) <= LONGEST_COUNT and word == SECTIONS[name]:
-            return Head(start, name, count, word, last)
+        if is_number(count) and len(count.lstrip(b"0")) <= LONGEST_COUNT and word == word_of_name:
+            return Head(end, count, word, last)
     return None
 
 
@@ -325,6 +326,8 @@ class Piece:
     # the entry, and of what stands before an entry on its line the one behind it
     opening: Opening | None = None
     is_last: bool = False
+    # whether it is cut off before a section's name
+    is_cut: bool = False
 
     def printed(self):
         text = self.text.strip(BLANKS)
@@ -343,32 +346,36 @@ class PrivateText:
         while self.at < len(self.plain):
             line, after = line_at(self.plain, self.at)
             opening = first_opening(self.operator, line)
-            head = first_head(self.plain, self.at, line, opening.at if opening else len(line))
-            if head and (self.waits or says_something(line[: head.at])):
-                yield self.before(line[: head.at])
-                self.at += head.at
-            elif head and (self.at + len(line) < head.end or len(head.count) > LONGEST_COUNT):
-                yield self.joined_head(line, head)
-            elif opening:
-                front = line[: opening.at]
-                if self.waits or front.strip(BLANKS):
-                    yield self.before(front, opening)
-                yield self.entry(opening)
-            else:
-                yield self.line(line, after)
+            if opening is None:
+                line, self.at = self.source_line(line, after)
+                yield from self.cut(line, is_last=is_closefile(line))
+                continue
+            front = line[: opening.at]
+            if self.waits or front.strip(BLANKS):
+                yield from self.cut(front, opening)
+            yield self.entry(opening)
 
-    def before(self, text, opening=None):
-        """What stands before a head or an entry."""
-        kind, self.waits = "closing" if self.waits else "line", False
-        return Piece(kind, text, opening)
+    def cut(self, text, opening=None, is_last=False):
+        """A line or a closing text; what stands before a section's name is one of its own where it has to be."""
+        kind, before = "closing" if self.waits else "line", before_section(text)
+        if section_lines(text) and (self.waits or says_something(before)):
+            yield Piece(kind, before, is_cut=True)
+            kind, text = "line", text[len(before) :]
+        self.waits = False
+        yield Piece(kind, text, opening, is_last)
 
-    def joined_head(self, line, head):
+    def source_line(self, line, after):
+        """A line, two that close the encrypted part together, or a section line; and where the next piece begins."""
+        following, later = line_at(self.plain, after)
+        both = None if first_opening(self.operator, following) else as_one(line, following)
+        head = head_over(self.plain, self.at, line)
+        if both is not None or head is None:
+            return (line, after) if both is None else (both, later)
         rest, after = line_at(self.plain, head.end)
-        has_entry = first_opening(self.operator, rest) is not None
-        self.at = head.end if has_entry else after
-        words = [(line[: head.at] + head.name).strip(BLANKS), head.count.lstrip(b"0") or b"0", head.word, rest.strip(BLANKS)]
-        text = b" ".join(words[:3] if has_entry or not words[3] else words)
-        return Piece("line", text, is_last=is_closefile(text))
+        words = [line[: head.name_end].strip(BLANKS), head.count.lstrip(b"0") or b"0", head.word]
+        if first_opening(self.operator, rest):
+            return b" ".join(words), head.end
+        return b" ".join(words + [rest.strip(BLANKS)] * bool(rest.strip(BLANKS))), after
 
     def entry(self, opening):
         start = self.at + opening.end + 1
@@ -378,14 +385,6 @@ class PrivateText:
         code = charstring_lines(self.lead, opening, self.plain[start:end])
         self.at, self.waits = end, True
         return Piece("entry", opening.name + b" {\n" + code, opening)
-
-    def line(self, line, after):
-        following, later = line_at(self.plain, after)
-        both = None if first_opening(self.operator, following) else as_one(line, following)
-        if both is not None:
-            line, after = both, later
-        self.at, kind, self.waits = after, "closing" if self.waits else "line", False
-        return Piece(kind, line, is_last=is_closefile(line))
 
 
 def says_something(text):

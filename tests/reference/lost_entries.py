@@ -64,7 +64,9 @@ class Follower:
             self.enter(found)
             self.hear(piece.text, words, found)
         other = self.unread(words)
-        return piece.opening.place() if other is None and piece.opening and closes else other
+        if other is None and closes and (piece.opening or piece.is_cut):
+            return piece.opening.place() if piece.opening else b""
+        return other
 
     def entry_fault(self, opening):
         part = "CharStrings" if opening.name[:1] == b"/" else "Subrs"
